@@ -7,7 +7,7 @@ use Rattle.std.proofs.lemmas.Int.{to_z-of_z, of_z-to_z, SFits-int_wrap}
 use Rattle.std.proofs.lemmas.Nat.{mod_below, div-add-mod', div_below, mod-mul-add, pow_pos, pow-add}
 use mir.Val.{SFits, bits}
 
--- -(n + 1) modulo m, read off the complement of n in a multiple of m
+-- the low bits of a negative number: -(n + 1) modulo m, read off the complement of n in a multiple of m
 complement-mod : (q m n : ℕ) → 0 < m → n < q * m → m - 1 - n % m ≡ (q * m - suc n) % m
 complement-mod q m n h l =
     let small : n % m < m = mod_below n m h in

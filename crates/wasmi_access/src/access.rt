@@ -24,11 +24,9 @@ mod sealed {
     impl<const N: usize> Sealed for [u8; N] {}
 }
 
-/// A conversion to the low bits of a number, as many as `T` has. Upstream: `WrapInto`, private
-/// there.
+/// A conversion to the low bits of a number, as many as `T` has. Upstream: the private `WrapInto`.
 pub trait WrapInto<T: Number>: Number {
-    /// The number of `T` that differs from that of `self` by a multiple of 2 to the power of the
-    /// width of `T`.
+    /// The number of `T` that differs from `self` by a multiple of 2 to the power of `T`'s width.
     fn wrap_into(self) -> T
         ensures value { result ≡ T.of_number (int_wrap T.width (Self.number self)) }
         ensures low_bits { wrap T.width (T.number result) ≡ wrap T.width (Self.number self) };
@@ -125,8 +123,7 @@ pub trait LittleEndianConvert: Number {
     /// As many bytes as the number has.
     type Bytes: Default + Drop + LoadInto + StoreFrom;
 
-    /// The bytes of `self`, the lowest first: those of its number modulo 2 to the power of its
-    /// width.
+    /// The bytes of `self`, lowest first: those of its number modulo 2 to the power of its width.
     fn into_le_bytes(self) -> Self::Bytes
         ensures bytes { Self.Bytes.bytes_of result
             ≡ le_bytes Self.Bytes.LEN (wrap Self.width (Self.number self)) }

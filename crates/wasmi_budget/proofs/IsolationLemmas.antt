@@ -6,13 +6,11 @@ use Rattle.std.proofs.lemmas.List.{get_or_append_left, get_or-set_other, get_or-
 use Rattle.std.proofs.lemmas.Option.{same_Some}
 use Rattle.std.specs.Prelude.{if◌then◌else◌, get_or, nat_eq, slice_set}
 use Rattle.std.specs.Option.{option_map}
-use Rattle.wasmi_meter.specs.declared.limiter.Kind.{Kind}
+use Rattle.wasmi_meter.specs.declared.{limiter.Kind.Kind, quota.Amounts.Amounts}
 use Rattle.wasmi_meter.specs.declared.limiter.Kind.TheVariants.{Bytes, Elements}
-use Rattle.wasmi_meter.specs.declared.quota.Amounts.{Amounts}
 use Rattle.wasmi_meter.specs.Capped.{amount_of, nothing, held_together, Asked}
 use Rattle.wasmi_meter.specs.Limiter.{Question, Answer, AskedIf, NoticedIf, optional_rules}
-use Rattle.wasmi_machine.specs.declared.calls.Call.{Call}
-use Rattle.wasmi_machine.specs.declared.calls.Reply.{Reply}
+use Rattle.wasmi_machine.specs.declared.{calls.Call.Call, calls.Reply.Reply}
 use Rattle.wasmi_machine.specs.State.{State}
 use Rattle.wasmi_machine.proofs.HoldingLemmas.{Carries, if_there}
 use Rattle.wasmi_budget.specs.declared.tenant.Tenant.{Tenant}
@@ -87,7 +85,7 @@ pub kept_set : (machines : List (Option State)) (index i : ℕ) (s : State) (t :
     → get_or machines index None ≡ Some s → get_or (slice_set machines i t) index None ≡ Some s
 kept_set machines index i s t other found = get_or-set_other machines i index t None other ∙ found
 
--- a machine is at its index after it was set there in place of another
+-- a machine stays at its index after it was set there in place of another
 pub set_at : (machines : List (Option State)) (index : ℕ) (s t : State) → get_or machines index None ≡ Some s
     → get_or (slice_set machines index (Some t)) index None ≡ Some t
 set_at machines index s t found =

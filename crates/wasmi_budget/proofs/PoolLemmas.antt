@@ -1,10 +1,11 @@
--- All machines of a pool: that the index of a tenant lies within their list, what they have together, and that this
--- stays within the caps, where one of them has run, is added or removed, or becomes another that has as much.
+-- All machines of a pool: that the index of a tenant lies within their list, that what one has run is a run of the
+-- pool, what they have together, and that this stays within the caps, where one of them has run, is added or removed,
+-- or becomes another that has as much.
 use Rattle.std.proofs.Common.{◌≡◌, Option, Some, List, refl, sym, ◌∙◌, ℕ, ◌+◌, ◌-◌, ◌≤◌, ◌<◌, None, length, get_or, [], ◌∷◌, ◌++◌, ap, arith, inl, inr}
 use Rattle.std.proofs.lemmas.Bool.{cases_lt}
 use Rattle.std.proofs.lemmas.List.{get_or_past}
 use Rattle.std.proofs.lemmas.Option.{same_Some, none-some}
-use Rattle.wasmi_meter.specs.declared.limiter.Kind.{Kind}
+use Rattle.wasmi_meter.specs.declared.{limiter.Kind.Kind, quota.Amounts.Amounts}
 use Rattle.wasmi_meter.specs.Capped.{amount_of, amounts_of, held_together}
 use Rattle.wasmi_meter.specs.Limiter.{optional_rules}
 use Rattle.wasmi_machine.specs.State.{Turn, world, State, total, HoldsTotals}
@@ -16,10 +17,8 @@ use Rattle.wasmi_budget.specs.Pool.{capped_tenant, tenant_rules, holdings, PoolV
 use Rattle.std.proofs.lemmas.List.Sums.{sum_by-remove, sum_by-set, sum_by_push}
 use Rattle.std.specs.Prelude.{slice_set, remove}
 use Rattle.wasmi_meter.specs.declared.limiter.Kind.TheVariants.{Bytes, Elements}
-use Rattle.wasmi_meter.specs.declared.quota.Amounts.{Amounts}
 use Rattle.wasmi_meter.specs.CappedProofs.{asked_reserves, noticed_gives_back}
-use Rattle.wasmi_machine.specs.declared.calls.Call.{Call}
-use Rattle.wasmi_machine.specs.declared.calls.Reply.{Reply}
+use Rattle.wasmi_machine.specs.declared.{calls.Call.Call, calls.Reply.Reply}
 use Rattle.wasmi_budget.specs.Laws.{RemovalsGiveBack}
 use Rattle.wasmi_budget.proofs.TenantLemmas.{tenant_keeps, amount_is, amounts_same, amount_held_total, step_holds, part_held}
 
@@ -147,7 +146,7 @@ module _ {pool : PoolValue} {all : Amounts} (kept : IsKept pool all) (index : �
 -- what `Pool::step_unasked` has done with the machine of an index
 module _ {pool : PoolValue} {all : Amounts} (kept : IsKept pool all) (index : ℕ) (call : Call) (reply : Reply)
     (machines' : List (Option State)) (ran : RunsUnasked pool.machines index call reply machines') where
-  -- the tenant of the machine
+  -- the tenant of the machine that has run
   abbrev own_tenant : Tenant
   own_tenant = tenant_at pool index ran.machine
 

@@ -1,5 +1,5 @@
--- Values at their indices: at which place an index lies, what a change of one value changes, and what a change of the
--- machine at the place of an index is to a pool.
+-- Values at their indices: at which place an index lies, which error says that it has none, what a change of one value
+-- changes, and what a change of the machine at the place of an index is to a pool.
 use Rattle.std.proofs.Common.{◌≡◌, ◌≢◌, ◌∙◌, ◌<◌, ◌≤◌, ◌+◌, ◌-◌, ◌++◌, inl, inr, [], ◌∷◌, List, Ok, Err, Result, Option, Some, None, ap, arith, get_or, length, map, refl, set, sym, suc, zero, ℕ, true, false}
 use Rattle.std.specs.Prelude.{All, MatchResult, ◌↔◌, is_some, nat_eq, remove, if◌then◌else◌}
 use Rattle.std.specs.List.{range_with_len}
@@ -15,8 +15,7 @@ use Rattle.std.proofs.lemmas.List.FromFn.{fill_by_all, get_or-map-range_with_len
 use Rattle.std.proofs.lemmas.List.Quantifiers.{all_pairs_push, all_pairs_remove}
 use Rattle.wasmi_meter.specs.declared.quota.Amounts.{Amounts}
 use Rattle.wasmi_machine.specs.State.{State}
-use Rattle.wasmi_machine.specs.declared.calls.Call.{Call}
-use Rattle.wasmi_machine.specs.declared.calls.Reply.{Reply}
+use Rattle.wasmi_machine.specs.declared.{calls.Call.Call, calls.Reply.Reply}
 use Rattle.wasmi_budget.proofs.PoolLemmas.{part_kept, part_runs}
 use Rattle.wasmi_budget.specs.Pool.{BecomesAt, IsKept, RunsAsPart, RunsTenant, pool_of}
 use Rattle.wasmi_budget.specs.Tenants.{HasAllUpTo, value_of, by_index, IsListed, IsPlace, Rises}
@@ -328,7 +327,7 @@ module _ {next : ℕ} {indices : List ℕ} {machines : List State} (listed : IsL
     after = set_value listed is sees index place found s';
   }
 
-  -- where it has run as a part, that of the index has run, and the pool is kept
+  -- where the machine at the place of an index has run as a part, that of the index has run, and the pool is kept
   pub ran_at : {caps all all' : Amounts} {calls : List Call} {replies : List Reply} {s' : State}
       → IsKept (pool_of caps view) all → RunsAsPart caps all s calls replies s' all'
       → RunsTenant (pool_of caps view) index calls replies (pool_of caps (by_index next indices (set machines place s')))
@@ -340,7 +339,7 @@ module _ {next : ℕ} {indices : List ℕ} {machines : List State} (listed : IsL
         part_kept kept index there part put,
       )
 
--- an error that can only be this one
+-- the error of a call on an index, which can only be this one
 pub only_error : {T E : Type 0} (e : E) (r : Result T E) → IsErrAnd r (λ x. x ≡ e) → r ≡ Err e
 only_error e (Ok t) is = absurd is
 only_error e (Err x) is = ap Err is

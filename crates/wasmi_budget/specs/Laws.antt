@@ -1,10 +1,8 @@
 -- What holds of all calls on a pool, one after another, and of all runs of a tenant's machine.
 use Rattle.std.specs.Prelude.{◌≡◌, ◌≢◌, ◌+◌, ℕ, List, [], ◌∷◌, nat_eq, if◌then◌else◌, MatchBool, Some, None, All}
-use Rattle.wasmi_machine.specs.declared.calls.Call.{Call}
-use Rattle.wasmi_machine.specs.declared.calls.Reply.{Reply}
-use Rattle.wasmi_machine.specs.declared.slots.SlotCounts.{SlotCounts}
-use Rattle.wasmi_machine.specs.State.{State, Turn, total}
-use Rattle.wasmi_budget.specs.Pool.{PoolValue, AddsTenant, RunsTenant, RemovesTenant, ReservesForTenant, ReservesElementsForTenant, machine_of, tenant_rules, total_of, without_others, RunsTenantBy, IsWithinCaps}
+use Rattle.wasmi_machine.specs.declared.{calls.Call.Call, calls.Reply.Reply, slots.SlotCounts.SlotCounts}
+use Rattle.wasmi_machine.specs.State.{State, Turn, total, world}
+use Rattle.wasmi_budget.specs.Pool.{PoolValue, AddsTenant, RunsTenant, RemovesTenant, ReservesForTenant, ReservesElementsForTenant, machine_of, pool_of, tenant_rules, total_of, without_others, RunsTenantBy, IsWithinCaps}
 use Rattle.wasmi_meter.specs.declared.limiter.Kind.{Kind}
 use Rattle.wasmi_meter.specs.Limiter.{optional_rules}
 use Rattle.wasmi_machine.specs.Determinism.{permitting, TellsNoDenial}
@@ -69,22 +67,19 @@ abbrev pub CapsHold : Type 0
 CapsHold = (pool : PoolValue) → IsWithinCaps pool → (turns : List PoolTurn) (pool' : PoolValue)
     → PoolRun pool turns pool' → (pool'.caps ≡ pool.caps) × IsWithinCaps pool'
 
--- a run in which each question is permitted is one, with the same turns and the same machine, where the others hold
--- nothing
+-- a run in which each question is permitted is one, with the same turns and machine, where the others hold nothing
 abbrev pub OthersDontShow : Type 0
 OthersDontShow = (s s' : State) (tenant tenant' : Tenant) (turns : List Turn)
-    → Run (permitting (optional_rules tenant_rules)) (record { state = s; limiter = Some tenant }) turns
-    (record { state = s'; limiter = Some tenant' })
-    → Run (optional_rules tenant_rules) (record { state = s; limiter = Some (without_others tenant) }) turns
-    (record { state = s'; limiter = Some (without_others tenant') })
+    → Run (permitting (optional_rules tenant_rules)) (world s (Some tenant)) turns (world s' (Some tenant'))
+    → Run (optional_rules tenant_rules) (world s (Some (without_others tenant))) turns
+    (world s' (Some (without_others tenant')))
 
 -- a tenant that is never denied gets, run after run, what it gets alone under the same caps
 abbrev pub RunsAsAlone : Type 0
 RunsAsAlone = (pool : PoolValue) (index : ℕ) (s : State) → machine_of pool index ≡ Some s
     → (turns : List PoolTurn) (pool' : PoolValue) → PermittingRun index pool turns pool'
     → (s' : State) × (machine_of pool' index ≡ Some s')
-    × PoolRun (record { caps = pool.caps; machines = Some s ∷ [] }) (own_turns index turns)
-    (record { caps = pool.caps; machines = Some s' ∷ [] })
+    × PoolRun (pool_of pool.caps (Some s ∷ [])) (own_turns index turns) (pool_of pool.caps (Some s' ∷ []))
 
 -- an accepted run of a tenant in which no reply reports a denial is one in which each question was permitted
 abbrev pub RepliesPermit : Type 0

@@ -1,27 +1,19 @@
 -- A pool of tenants: a tenant's rules, what the machines hold together, how the machine at an index becomes another by
 -- a run, a reservation or a removal, which calls ask no limiter, and what the pool's errors print.
-use Rattle.wasmi_meter.specs.declared.quota.Holdings.{Holdings}
+use Rattle.wasmi_meter.specs.declared.{quota.Holdings.Holdings, limiter.Kind.Kind, quota.Amounts.Amounts}
 use Rattle.wasmi_meter.specs.Capped.{amount_of, nothing, amounts_of, Capped, capped_rules, held_together}
 use Rattle.wasmi_meter.specs.Limiter.{Rules, optional_rules}
-use Rattle.wasmi_budget.specs.declared.tenant.Tenant.{Tenant}
+use Rattle.wasmi_budget.specs.declared.{tenant.Tenant.Tenant, error.AddError.AddError, error.PoolError.PoolError, error.ReserveError.ReserveError, error.RunIntoError.RunIntoError}
 use Rattle.std.specs.Prelude.{◌≡◌, ◌≤◌, ◌<◌, ◌+◌, ◌-◌, ◌^◌, ◌++◌, ⊤, ℕ, List, [], ◌∷◌, Option, Some, None, slice_index_or, slice_set, sum_by, remove, codes}
-use Rattle.wasmi_meter.specs.declared.limiter.Kind.{Kind}
 use Rattle.wasmi_meter.specs.declared.limiter.Kind.TheVariants.{Bytes, Elements}
-use Rattle.wasmi_meter.specs.declared.quota.Amounts.{Amounts}
-use Rattle.wasmi_machine.specs.declared.calls.Call.{Call}
+use Rattle.wasmi_machine.specs.declared.{calls.Call.Call, calls.Reply.Reply, slots.SlotCounts.SlotCounts}
 use Rattle.wasmi_machine.specs.declared.calls.Call.TheVariants.{Binary, CopyMemory, FillMemory, InitMemory, SetFuel, Store}
-use Rattle.wasmi_machine.specs.declared.calls.Reply.{Reply}
 use Rattle.wasmi_machine.specs.State.{State, total, world, with_reserved, with_tables, HoldsTotals}
 use Rattle.wasmi_machine.specs.Steps.{IsRunOf, RepliesWith}
 use Rattle.wasmi_machine.specs.TableEffects.{ReservesElementsAt}
-use Rattle.wasmi_machine.specs.declared.slots.SlotCounts.{SlotCounts}
-use Rattle.wasmi_budget.specs.declared.error.AddError.{AddError}
 use Rattle.wasmi_budget.specs.declared.error.AddError.TheVariants.{NotEmpty, NoRoom}
-use Rattle.wasmi_budget.specs.declared.error.PoolError.{PoolError}
 use Rattle.wasmi_budget.specs.declared.error.PoolError.TheVariants.{NoTenant, OutOfMemory}
-use Rattle.wasmi_budget.specs.declared.error.ReserveError.{ReserveError}
 use Rattle.wasmi_budget.specs.declared.error.ReserveError.TheVariants as reserve
-use Rattle.wasmi_budget.specs.declared.error.RunIntoError.{RunIntoError}
 use Rattle.wasmi_budget.specs.declared.error.RunIntoError.TheVariants as into
 
 -- what a tenant holds
@@ -170,8 +162,7 @@ pub record BecomesAt (machines : List (Option State)) (index : ℕ) (change : St
 
 -- the machine at an index has replied to a call without its tenant, and all others are the same
 abbrev pub RunsUnasked : List (Option State) → ℕ → Call → Reply → List (Option State) → Type 0
-RunsUnasked machines index call reply machines' =
-    BecomesAt machines index (λ s s'. RepliesUnasked call s reply s') machines'
+RunsUnasked machines index call reply = BecomesAt machines index (λ s s'. RepliesUnasked call s reply s')
 
 -- the machine of a tenant was taken off: its index has none from then on, and all else is the same
 pub record RemovesTenant (pool : PoolValue) (index : ℕ) (s : State) (pool' : PoolValue) : Type 0 where
@@ -184,16 +175,14 @@ ReservesAt machines index more machines' = BecomesAt machines index (λ s s'. s'
 
 -- the machine of a tenant has so many more slots reserved, and all else is the same
 abbrev pub ReservesForTenant : PoolValue → ℕ → SlotCounts → PoolValue → Type 0
-ReservesForTenant pool index more pool' =
-    (pool'.caps ≡ pool.caps) × ReservesAt pool.machines index more pool'.machines
+ReservesForTenant pool index more pool' = (pool'.caps ≡ pool.caps) × ReservesAt pool.machines index more pool'.machines
 
 -- a machine has replied to a reservation of so many elements in all of one of its tables, and all else is the same
 abbrev pub ReservesElements : State → ℕ → ℕ → Reply → State → Type 0
 ReservesElements s table elements reply s' =
     ReservesElementsAt table elements s.tables reply s'.tables × (s' ≡ with_tables s s'.tables)
 
--- the machine at an index has replied to a reservation of so many elements in all of one of its tables, and all others
--- are the same
+-- the machine at an index has replied to a reservation of elements of one of its tables, and all others are the same
 abbrev pub ReservesElementsIn : List (Option State) → ℕ → ℕ → ℕ → Reply → List (Option State) → Type 0
 ReservesElementsIn machines index table elements reply machines' =
     BecomesAt machines index (λ s s'. ReservesElements s table elements reply s') machines'

@@ -51,8 +51,7 @@ impl fmt::Display for PoolError {
 
 impl std::error::Error for PoolError {}
 
-/// Why a pool doesn't run a tenant's calls into memory that is kept for replies, in the order of the
-/// tests.
+/// Why a pool doesn't run a tenant's calls into memory kept for replies, in the order of the tests.
 #[derive(Debug, PartialEq, Eq, Drop)]
 pub enum RunIntoError {
     /// No tenant has the index.

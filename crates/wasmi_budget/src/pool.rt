@@ -1,5 +1,4 @@
-//! The pool: how machines are added, removed, run and reserved for within its caps, and what they
-//! hold.
+//! The pool: how machines are added, removed, run and reserved for within caps, and what they hold.
 ghost use Rattle.std.specs.Prelude.{◌≡◌, ◌↔◌, ◌<◌, ◌≤◌, ◌∷◌, length, [], None, IsTrue, IfOk, IfErr, OnErr, OnOk, IsErrOf, MatchOption};
 ghost use Rattle.std.specs.Option.{option_map, option_copied};
 ghost use Rattle.wasmi_meter.specs.declared.limiter.Kind.TheVariants.{Bytes, Elements};
@@ -313,8 +312,7 @@ impl<'r> Pool<'r> {
         Some(self.held(index)?.elements)
     }
 
-    /// The bytes of all memories and the elements of all tables of the tenants, including those
-    /// that they dropped.
+    /// The bytes of all memories and the elements of all tables of the tenants, also dropped ones.
     pub fn held_by_all(&self) -> Amounts
         ensures { result ≡ amounts_of (total_of self.now.machines) }
     {

@@ -1,5 +1,4 @@
-//! One machine of a pool with the amounts that it has, the calls on it, and its limiter, the
-//! tenant.
+//! One machine of a pool with the amounts it has, the calls on it, and its limiter, the tenant.
 ghost use Rattle.std.specs.Prelude.{◌≡◌, ◌≤◌, ◌<◌, ◌^◌, ◌∷◌, ◌↔◌, [], Some, IsTrue, IfOk, IsOk, OnErr, OnOk, length};
 ghost use Rattle.wasmi_meter.specs.declared.limiter.Kind.{Kind};
 ghost use Rattle.wasmi_meter.specs.Capped.{amounts_of, held_together};
@@ -17,9 +16,8 @@ use wasmi_machine::{
 use wasmi_meter::{Amounts, CappedLimiter, Holdings, Kind, ResourceLimiterRef};
 
 /// The limiter of one machine of a pool: it permits what keeps all tenants together within the
-/// caps, and denies the rest. It counts each difference that it permitted. At a notice it takes
-/// back the last one if that is of the same kind, once. What the others hold stays the same while
-/// its machine runs.
+/// caps, and denies the rest. It counts each difference it permitted. At a notice it takes back the
+/// last one if that is of the same kind, once. What the others hold stays while its machine runs.
 #[derive(Clone, Copy, Debug)]
 pub struct Tenant {
     caps: Amounts,
@@ -204,7 +202,7 @@ impl<'r> CountedMachine<'r> {
     }
 }
 
-/// Whether a reply is an error of a memory or a table, after which a machine has what it had.
+/// Whether a reply is a memory's or table's error, after which a tenant's machine has what it had.
 #[inline(always)]
 fn is_refused_growth(reply: &Reply) -> bool
     ensures { IsTrue result → IsRefusal reply.now }

@@ -34,8 +34,7 @@ fn place_of(indices: &[usize], index: usize) -> Option<usize>
     indices.binary_search(&index).ok()
 }
 
-/// Machines at indices that are given in their order, each once. One that was removed keeps no
-/// memory.
+/// Machines at indices that are given in order, each once. One that was removed keeps no memory.
 #[derive(Debug, Drop)]
 pub(crate) struct Tenants<'r> {
     /// The next index that is given.

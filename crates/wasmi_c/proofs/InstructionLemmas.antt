@@ -14,7 +14,7 @@ written : {V : Type 0} (test : Bool) (value old new : V) → test ≡ true → n
 written true value old new passes is = (refl, is)
 written false value old new passes is = cc
 
--- an element of a list that has an index
+-- an element of an array, at an index within it
 element : {A : Type 0} (xs : List A) (k : ℕ) → k < length xs → A
 element [] k below = absurd (omega (arith, below))
 element (x ∷ xs) k below = x

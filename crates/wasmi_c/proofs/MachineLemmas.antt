@@ -1,12 +1,11 @@
--- What calls and lists of calls do to a machine with its limiter, whether the limiter is kept after calls, writes and
--- reservations, and how a machine is made.
+-- What calls and lists of calls do to a machine with its limiter, whether the limiter is kept after runs, calls, writes
+-- and reservations, and how a machine is made.
 use Rattle.std.proofs.Common.{◌≡◌, ◌+◌, ◌<◌, ◌≤◌, ◌++◌, set, take, length, get_or, All, Option, Some, None, false, is_some, map, Ok, Err, List, Result, arith, IfOk, OnErr, [], ◌∷◌, refl, sym, ap, ℕ, ◌∙◌, ◌^◌, sum, inl, inr}
 use Rattle.wasmi_c.proofs.Common.{take_all, take_more, take_more_set, Vec, optional_rules, holdings, quota_rules, SameCaps, State, with_memories, with_reserved, total, Turn, byte_count, slot_count, world, with_tables, Write, CallsAreRuns, InTurn, ListsAreRuns, MachineReplies, QuotasAreKept, world_of, ReplyStruct}
 use Rattle.std.specs.Global.{Global}
 use Rattle.std.specs.declared.alloc.AllocError.{AllocError}
 use Rattle.wasmi_meter.specs.AnyLimiter.{any_limiter_rules, caps_of}
-use Rattle.wasmi_meter.specs.declared.any_limiter.AnyLimiter.{AnyLimiter}
-use Rattle.wasmi_meter.specs.declared.limiter.Kind.{Kind}
+use Rattle.wasmi_meter.specs.declared.{any_limiter.AnyLimiter.AnyLimiter, limiter.Kind.Kind}
 use Rattle.wasmi_meter.specs.declared.limiter.Kind.TheVariants.{Bytes, Elements}
 use Rattle.wasmi_machine.specs.Determinism.{RelatesByKind, RunsKeepKind}
 use Rattle.wasmi_machine.specs.Laws.{HoldsTotalsAlways, QuotasStayWithin}
@@ -14,19 +13,16 @@ use Rattle.wasmi_machine.proofs.StoreLemmas.{run_of_one, write_replies}
 use Rattle.wasmi_machine.specs.Steps.{IsRunOf, Run, RepliesWith, SomeCopy}
 use Rattle.wasmi_machine.specs.TableEffects.{ReservesElementsAt}
 use Rattle.wasmi_budget.proofs.TenantLemmas.{elements_alike}
-use Rattle.wasmi_machine.specs.declared.calls.Call.{Call}
-use Rattle.wasmi_machine.specs.declared.calls.Reply.{Reply}
-use Rattle.wasmi_machine.specs.declared.slots.SlotCounts.{SlotCounts}
+use Rattle.wasmi_machine.specs.declared.{calls.Call.Call, calls.Reply.Reply, slots.SlotCounts.SlotCounts}
 use Rattle.wasmi_c.specs.Machine.Caps.{Keeps, MachineValue}
 use Rattle.wasmi_c.specs.Machine.CallStructs.{call_of}
 use Rattle.wasmi_c.specs.Machine.NewMachines.{IsAnswer, IsNewWithAnswers, MakesMachine, MakesWithAnswers, answer_of}
-use Rattle.wasmi_c.specs.declared.machine.call_struct.CallStruct.{CallStruct}
-use Rattle.wasmi_c.specs.declared.machine.limits.Limits.{Limits}
+use Rattle.wasmi_c.specs.declared.{machine.call_struct.CallStruct.CallStruct, machine.limits.Limits.Limits}
 use Rattle.wasmi_machine.proofs.MemoryEffectsLemmas.{vector_store_facts, write_facts}
 use Rattle.wasmi_machine.specs.MemoryEffects.{StoresMemoryAt, WritesMemoryAt}
 use Rattle.wasmi_meter.specs.declared.any_limiter.AnyLimiter.TheVariants as limiter
 
--- what a limiter holds after a run: what the machine has, within the caps of the one before
+-- a limiter is kept after a run: it holds what the machine has, within the caps of the one before
 abbrev KeptAfter : AnyLimiter → State → AnyLimiter → Type 0
 KeptAfter l s' l' = Keeps s' l' × (caps_of l' ≡ caps_of l)
 

@@ -1,5 +1,6 @@
--- Creations and growths of what lies with C, and writes to it: what they take of its meter, and that they are under the
--- quota of some numbers, or under a limiter that allows the host's answers.
+-- Creations and growths of what lies with C, and writes to it: what they take of its meter, and that they are under
+-- another limiter too, the quota of some numbers or one that allows the host's answers; and growths that ask no
+-- limiter.
 use Rattle.std.proofs.Common.{◌≡◌, Bool, true, false, ℕ, ◌-◌, Option, Some, None, Result, refl, ap, inl, inr, Ok, List, take, drop, length, ◌++◌, ◌∙◌, ◌⊎◌, ◌+◌, ◌/◌, ◌≤◌, arith}
 use Rattle.wasmi_c.proofs.Common.{take_at, drop_at, nat_eq, if◌then◌else◌, option_map, unwrap_or, Rules, Question, Answer, Failure, NoticeAnswer, optional_rules, AskedIf, NoticedIf, Meter, meter_after, meter_of, with_left, KeepsMeter, MeteredRegion, SameRest, limiter_of, quota_numbers_rules, KeepsQuota, page_bytes, by_pages, MemoryValue, Embedded, embedded, WritesBytesAs, of_memory, WritesTableAs, of_table, TableTypeValue, TableValue, TableWrite, WritesTable, table_of, Quota, quota_rules, Placed, Lent, MemoryTypeValue, creation_of}
 use Rattle.std.specs.Prelude.{OnErr}
@@ -11,21 +12,16 @@ use Rattle.wasmi_region.specs.Memory.{made_in, memory_in}
 use Rattle.wasmi_meter.specs.declared.error.MemoryError.TheVariants.{OutOfBoundsAccess, OutOfFuel}
 use Rattle.wasmi_store.proofs.GrowthLemmas.{grows_too}
 use Rattle.wasmi_store.proofs.WriteLemmas.{items_taken, write_takes}
-use Rattle.wasmi_c.specs.declared.numbers.MeterNumbers.{MeterNumbers}
-use Rattle.wasmi_c.specs.declared.numbers.Range.{Range}
-use Rattle.wasmi_meter.specs.declared.error.MemoryError.{MemoryError}
+use Rattle.wasmi_c.specs.declared.{numbers.MeterNumbers.MeterNumbers, numbers.Range.Range, numbers.MemoryNumbers.MemoryNumbers, numbers.QuotaNumbers.QuotaNumbers, host.HostAnswers.HostAnswers}
+use Rattle.wasmi_meter.specs.declared.{error.MemoryError.MemoryError, error.TableError.TableError}
 use Rattle.wasmi_meter.proofs.AttemptLemmas.{meter_after_nothing}
 use Rattle.wasmi_meter.specs.Attempt.{MeteredValue, Attempt, Request, AttemptOutcome, Unasked, Denied, Met, Failed, Follows, answer_of}
-use Rattle.wasmi_meter.specs.declared.error.TableError.{TableError}
 use Rattle.wasmi_c.specs.Placement.{status_of, grown_number, written_number, Placement, GrowsAs, GrowsBy, LeavesAs, WritesAs, Limited, limiter_after, Allows, SettlesGrowth, SettlesCreation}
-use Rattle.wasmi_c.specs.declared.numbers.MemoryNumbers.{MemoryNumbers}
-use Rattle.wasmi_c.specs.declared.numbers.QuotaNumbers.{QuotaNumbers}
 use Rattle.wasmi_c.specs.MemoryCalls.{MakesEmbedded}
 use Rattle.wasmi_c.specs.Numbers.{settings_of}
 use Rattle.wasmi_c.specs.Host.{fresh, host_rules}
-use Rattle.wasmi_c.specs.declared.host.HostAnswers.{HostAnswers}
 
--- a growth takes its charge from the meter
+-- a growth of what lies with C takes its charge from the meter
 growth_charged : {V E S : Type 0} (rules : Rules S) (g : Growth V E) (s s' : MeteredValue V S) (result : Result ℕ E)
     (charge : ℕ) → Grows rules g s result charge s' → s'.meter ≡ option_map (λ m. meter_after m charge) s.meter
 growth_charged rules g s s' result charge (inl none) = rw (none.same, none.uncharged) (meter_after_nothing s.meter)
@@ -178,7 +174,7 @@ makes_memory a a' ty q q' named result makes is left = inr (
   },
 )
 
--- a creation that is done has made what was to be made
+-- a creation of what lies with C that is done has made what was to be made
 pub made_is : {T E : Type 0} (e : Request (Unit {0}) E) (made x : T) (outcome : AttemptOutcome E)
     → Ok x ≡ answer_of e made outcome → x ≡ made
 made_is e made x Met is = cc

@@ -6,13 +6,10 @@ use Rattle.std.specs.Prelude.{slice_get}
 use Rattle.std.proofs.lemmas.List.Elements.{All-cons, All-nil}
 use Rattle.std.proofs.lemmas.Bool.{cases_lt}
 use Rattle.std.proofs.lemmas.Bool.Decides.{nat_tests}
-use Rattle.wasmi_meter.specs.declared.error.MemoryError.{MemoryError}
+use Rattle.wasmi_meter.specs.declared.{error.MemoryError.MemoryError, error.TableError.TableError, limiter.Kind.Kind, quota.Holdings.Holdings}
 use Rattle.wasmi_meter.specs.declared.error.MemoryError.TheVariants as memory_error
-use Rattle.wasmi_meter.specs.declared.error.TableError.{TableError}
 use Rattle.wasmi_meter.specs.declared.error.TableError.TheVariants as table_error
-use Rattle.wasmi_meter.specs.declared.limiter.Kind.{Kind}
 use Rattle.wasmi_meter.specs.declared.limiter.Kind.TheVariants.{Bytes, Elements}
-use Rattle.wasmi_meter.specs.declared.quota.Holdings.{Holdings}
 use Rattle.wasmi_meter.specs.Attempt.{Request, AttemptOutcome, Unasked, Denied, Met, Failed, MayEnd, Follows, answer_of, value_after}
 use Rattle.wasmi_meter.specs.CappedProofs.{asked_reserves}
 use Rattle.wasmi_meter.proofs.CappedLemmas.{denial_keeps, given_back, asked_is_within, noticed_is_within, quota_keeps, released_within}
@@ -24,9 +21,7 @@ use Rattle.wasmi_c.specs.Placement.{EndsBy, GrowsBy, LeavesAs, Placement, status
 use Rattle.wasmi_c.specs.SharedQuota.{UnderQuota, HoldsSums, MakesUnder, GrowsUnder, EndsUnder, CallsUnder, OneQuotaHoldsAll, OneQuotaHoldsEach, other, sizes_made, sizes_of}
 use Rattle.wasmi_c.specs.Status.{memory_status, table_status}
 use Rattle.wasmi_c.specs.TableCalls.{MakesTableEmbedded}
-use Rattle.wasmi_c.specs.declared.numbers.MemoryNumbers.{MemoryNumbers}
-use Rattle.wasmi_c.specs.declared.numbers.QuotaNumbers.{QuotaNumbers}
-use Rattle.wasmi_c.specs.declared.numbers.TableNumbers.{TableNumbers}
+use Rattle.wasmi_c.specs.declared.{numbers.MemoryNumbers.MemoryNumbers, numbers.QuotaNumbers.QuotaNumbers, numbers.TableNumbers.TableNumbers}
 use Rattle.wasmi_machine.proofs.TotalLemmas.{sum_set, sum_push}
 use Rattle.wasmi_machine.proofs.EffectLemmas.{on_live}
 
@@ -36,7 +31,7 @@ pub record Counts (kind : Kind) (size size' : ℕ) (quota quota' : Quota) : Type
   pub others : amount_held (holdings quota') (other kind) ≡ amount_held (holdings quota) (other kind)
   pub within : IsWithinCaps quota → IsWithinCaps quota'
 
--- after n more of a kind, n more of it is held
+-- what an attempt adds to a quota: after n more of a kind, n more of it is held
 held_more : (kind : Kind) (n : ℕ) (h h' : Holdings) → h' ≡ with_more h kind n
     → (amount_held h' kind ≡ amount_held h kind + n) × (amount_held h' (other kind) ≡ amount_held h (other kind))
 held_more Bytes n h h' more = rw more (refl, refl)
@@ -48,7 +43,7 @@ held_same : (kind : Kind) (h h' : Holdings) → HoldsTheSame h h'
 held_same Bytes h h' same = (same.bytes, same.elements)
 held_same Elements h h' same = (same.elements, same.bytes)
 
--- after n of a kind that were given up, so many less are held
+-- after a memory or a table of n ended, which were given up, so many less are held
 held_less : (kind : Kind) (n : ℕ) (h h' : Holdings) → Releases h kind n true h'
     → (amount_held h' kind + n ≡ amount_held h kind) × (amount_held h' (other kind) ≡ amount_held h (other kind))
 held_less kind n h h' released =
@@ -67,7 +62,7 @@ pub nothing_counts : (kind : Kind) (size : ℕ) (quota quota' : Quota) → quota
     → Counts kind size size quota quota'
 nothing_counts kind size quota quota' same = rw same (record { held = refl; others = refl; within = λ caps. caps })
 
--- an attempt's notices are of the kind that is asked for
+-- what an attempt adds to a quota is of one kind: its notices are of the kind that is asked for
 abbrev pub TellsOfKind : {V E : Type 0} → Request V E → Type 0
 TellsOfKind {E = E} e = (cause : E) → kind_of (e.notice cause) ≡ e.question.kind
 
@@ -168,11 +163,11 @@ module _ {V E : Type 0} (g : Growth V E) (size : V → ℕ) (x : V) (counted : I
 
 -- ---- sums of sizes
 
--- the length of n items is the difference of n and 0
+-- for the sums of the sizes: the length of n items is the difference of n and 0
 pub length_made : (n y : ℕ) → length (replicate n y) ≡ n - 0
 length_made n y = omega (arith, length-replicate {A = ℕ} n y)
 
--- the length after n more items is the length before, and the difference of the two
+-- for the sums of the sizes: the length after n more items is the length before, and the difference of the two
 pub length_grown : (xs : List ℕ) (n y : ℕ) → length (xs ++ replicate n y) ≡ length xs + (length xs + n - length xs)
 length_grown xs n y = omega (arith, length-append xs (replicate n y), length-replicate {A = ℕ} n y)
 
@@ -371,7 +366,7 @@ one_quota_holds_all u (u' ∷ after) holds calls =
     let held = after_call u u' holds calls.0 in
     All-cons HoldsSums u' after held (one_quota_holds_all u' after held calls.1)
 
--- a sum is at least each of its parts
+-- a sum of sizes under one quota is at least each of them
 part_of_sum : (sizes : List ℕ) (k size : ℕ) → slice_get sizes k ≡ Some size → size ≤ sum sizes
 part_of_sum sizes k size there = omega (arith, sum_set sizes k size 0 there)
 

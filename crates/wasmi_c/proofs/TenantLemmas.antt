@@ -3,8 +3,7 @@ use Rattle.std.proofs.Common.{◌≡◌, ◌≤◌, ◌<◌, ◌-◌, ◌∷◌,
 use Rattle.wasmi_c.proofs.Common.{set-get_or, MatchOption, slice_set, State, World, world, SetFuel, Rules, optional_rules, meter_after, meter_set, PoolValue, RunsTenant, machine_of, tenant_at, tenant_rules, word_after, with_machine_at, TenantPaysFuel, TenantReplies, TenantRepliesInStatus, TenantRepliesInWord, DONE, ReplyStruct}
 use Rattle.wasmi_machine.proofs.StoreLemmas.{run_of_one}
 use Rattle.wasmi_machine.specs.Steps.{IsRunOf, RepliesWith}
-use Rattle.wasmi_machine.specs.declared.calls.Call.{Call}
-use Rattle.wasmi_machine.specs.declared.calls.Reply.{Reply}
+use Rattle.wasmi_machine.specs.declared.{calls.Call.Call, calls.Reply.Reply}
 use Rattle.wasmi_meter.specs.declared.fuel.FuelError.{FuelError}
 use Rattle.wasmi_meter.specs.declared.fuel.FuelError.TheVariants.{FuelMeteringDisabled, OutOfFuel}
 use Rattle.wasmi_budget.specs.declared.tenant.Tenant.{Tenant}
@@ -61,7 +60,7 @@ set_by_run rules fuel w full w' (turn ∷ [], called, told, (v, step, ran)) =
     rw (ran, sets.after) sets.effect.1
 set_by_run rules fuel w full w' (turn ∷ t ∷ turns, called, told, ran) = absurd cc
 
--- what is left of so much fuel once an amount is taken; or why it isn't
+-- what is left of a tenant's fuel once a call takes an amount; or why it doesn't
 abbrev LeftAfter : Option ℕ → ℕ → Result ℕ FuelError → Type 0
 LeftAfter had amount result = MatchOption had (result ≡ Err FuelMeteringDisabled)
     (λ left. (amount ≤ left → result ≡ Ok (left - amount)) × (left < amount → result ≡ Err (OutOfFuel amount)))

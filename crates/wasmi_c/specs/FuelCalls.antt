@@ -9,13 +9,11 @@ use Rattle.wasmi_c.specs.declared.numbers.MeterNumbers.{MeterNumbers}
 abbrev pub SetsFuel : ℕ → MeterNumbers → ℕ → MeterNumbers → Type 0
 SetsFuel amount h status h' = MatchOption (meter_of h).left
     ((status ≡ METERING_DISABLED) × (h' ≡ h))
-    (λ left. (status ≡ DONE) × (meter_of h' ≡ meter_set (meter_of h) amount)
-    × (h' ≡ record h { left = amount }))
+    (λ left. (status ≡ DONE) × (meter_of h' ≡ meter_set (meter_of h) amount) × (h' ≡ record h { left = amount }))
 
 -- the fuel that is left of a meter that is on
 abbrev pub TellsFuel : MeterNumbers → ℕ → ℕ → ℕ → Type 0
-TellsFuel h number status number' = MatchOption (meter_of h).left
-    ((status ≡ METERING_DISABLED) × (number' ≡ number))
+TellsFuel h number status number' = MatchOption (meter_of h).left ((status ≡ METERING_DISABLED) × (number' ≡ number))
     (λ left. (status ≡ DONE) × (number' ≡ left))
 
 -- an amount is taken of a meter that is on where so much is left, and the number is what is left then; else the number

@@ -7,8 +7,7 @@ use Rattle.wasmi_meter.specs.declared.error.MemoryError.{MemoryError}
 use Rattle.wasmi_meter.specs.Limiter.{Answer, NoticeAnswer, Rules}
 use Rattle.wasmi_store.specs.Growth.{Growth}
 use Rattle.wasmi_store.specs.Memory.{MemoryValue, growth_of, pages_of}
-use Rattle.wasmi_c.specs.declared.host.HostAnswers.{HostAnswers}
-use Rattle.wasmi_c.specs.declared.host.Question.{Question}
+use Rattle.wasmi_c.specs.declared.{host.HostAnswers.HostAnswers, host.Question.Question}
 
 -- 1 is yes, 0 is no, any other number is an error
 abbrev pub answer_of : ℕ → Answer
@@ -39,7 +38,7 @@ plain_sizes current desired maximum = record {
   has_maximum = if is_some maximum then 1 else 0;
 }
 
--- a growth of a memory by so many pages, with what it asks a limiter
+-- a growth of a memory by so many pages, with what it asks the host
 abbrev pub memory_growth : MemoryValue → ℕ → Growth MemoryValue MemoryError
 memory_growth x pages = record { amount = pages; size = pages_of x; request = growth_of x pages }
 

@@ -1,5 +1,5 @@
--- The instruction that has a number, what a call of it gives on values and on arrays, step by step, and what it leaves
--- where C reads it.
+-- The instruction, load or store that has a number, its name, what a call of it gives on values, on arrays and on a
+-- memory, step by step, and what it leaves where C reads it.
 use Rattle.std.specs.Prelude.{◌≡◌, ℕ, ◌==◌, ◌&&◌, if◌then◌else◌, List, map, length, slice_get, codes, Option, Result, Ok, Err, MatchResult, ◌+◌, nat_lt}
 use Rattle.std.specs.Option.{ok_or}
 use Rattle.std.specs.Simd.Lanes.{zip2}
@@ -8,11 +8,10 @@ use Rattle.std.specs.List.{list_all}
 use Rattle.wasmi_types.specs.declared.trap.TrapCode.{TrapCode}
 use Rattle.wasmi_types.specs.Trap.{code_number}
 use Rattle.wasmi_c.specs.declared.status.TheConstants.{DONE, NO_LANE, LENGTHS_DIFFER, UNKNOWN}
-use Rattle.wasmi_c.specs.declared.instruction.result.Refusal.{Refusal}
+use Rattle.wasmi_c.specs.declared.{instruction.result.Refusal.Refusal, instruction.result.InstructionResult.InstructionResult, instruction.load.Load.Load, instruction.store.Store.Store, instruction.unary.Unary.Unary, instruction.binary.Binary.Binary}
 use Rattle.wasmi_c.specs.declared.instruction.result.Refusal.TheVariants.{Trap, NoLane, LengthsDiffer, Unknown}
 use Rattle.wasmi_raw.specs.declared.raw.RawVal.{RawVal}
 use Rattle.wasmi_raw.specs.RawVal.{raw_of, raw_of_vector, vector_in, unsigned_in}
-use Rattle.wasmi_c.specs.declared.instruction.result.InstructionResult.{InstructionResult}
 use Rattle.wasmi_types.specs.Access.{overwrite}
 use Rattle.wasmi_types.specs.Numbers.{le_bytes}
 use Rattle.wasmi_types.specs.declared.trap.TrapCode.TheVariants.{MemoryOutOfBounds}
@@ -21,25 +20,17 @@ use Rattle.wasmi_ops.specs.LoadStoreOps.{as_raw, loaded_raw, stored_bytes, load_
 use Rattle.wasmi_scalar_ops.specs.ScalarOps.{unary_raw, binary_raw, scalar_unary_name, scalar_binary_name}
 use Rattle.wasmi_ops.specs.VectorOps.{loaded_vector, made_vector, unary_vector, tested_raw, binary_vector, shifted_vector, ternary_vector, vector_load_name, make_name, unary_name, test_name, binary_name, shift_name}
 use Rattle.wasmi_c.specs.declared.instruction.numbers.TheConstants.{LOAD_INSTRUCTIONS, STORE_INSTRUCTIONS, UNARY_INSTRUCTIONS, BINARY_INSTRUCTIONS}
-use Rattle.wasmi_c.specs.declared.instruction.load.Load.{Load}
 use Rattle.wasmi_c.specs.declared.instruction.load.Load.TheVariants as load
-use Rattle.wasmi_c.specs.declared.instruction.store.Store.{Store}
 use Rattle.wasmi_c.specs.declared.instruction.store.Store.TheVariants as store
-use Rattle.wasmi_c.specs.declared.instruction.unary.Unary.{Unary}
 use Rattle.wasmi_c.specs.declared.instruction.unary.Unary.TheVariants as one
-use Rattle.wasmi_c.specs.declared.instruction.binary.Binary.{Binary}
 use Rattle.wasmi_c.specs.declared.instruction.binary.Binary.TheVariants as two
-use Rattle.wasmi_ops.specs.declared.vector.TernaryOp.{TernaryOp}
+use Rattle.wasmi_ops.specs.declared.{vector.TernaryOp.TernaryOp, vector.LoadLaneOp.LoadLaneOp, vector.StoreLaneOp.StoreLaneOp, vector.ExtractOp.ExtractOp, vector.ReplaceOp.ReplaceOp}
 use Rattle.wasmi_ops.specs.declared.vector.TheConstants.{TERNARIES, EXTRACTIONS, LANE_LOADS, LANE_STORES, REPLACEMENTS}
 use Rattle.wasmi_ops.specs.LaneOps.{extract_op, load_lane_op, replace_op, store_lane_op, extracted_raw, replaced_vector, loaded_lane, stored_lane}
-use Rattle.wasmi_ops.specs.declared.vector.LoadLaneOp.{LoadLaneOp}
-use Rattle.wasmi_ops.specs.declared.vector.StoreLaneOp.{StoreLaneOp}
-use Rattle.wasmi_ops.specs.declared.vector.ExtractOp.{ExtractOp}
-use Rattle.wasmi_ops.specs.declared.vector.ReplaceOp.{ReplaceOp}
 use Rattle.wasmi_lanewise.specs.VectorTable as vector
 use Rattle.wasmi_c.specs.Types.{where_true}
 
--- the status of a call that writes nothing: the number of the trap, or which argument is wrong
+-- the status of a call of an instruction that writes nothing: the number of the trap, or which argument is wrong
 abbrev pub refusal_status : Refusal → ℕ
 refusal_status (Trap code) = code_number code
 refusal_status NoLane = NO_LANE
@@ -85,8 +76,7 @@ each_of f a count = if count == length a then Ok (map f a) else Err LengthsDiffe
 
 -- what a function gives of the elements of two arrays at each index, if both have as many as are to be written
 unfoldable pub each_of_two : {A B C : Type 0} → (A → B → C) → List A → List B → ℕ → Result (List C) Refusal
-each_of_two f a b count =
-    if (length b == length a) && (count == length a) then Ok (zip2 f a b) else Err LengthsDiffer
+each_of_two f a b count = if (length b == length a) && (count == length a) then Ok (zip2 f a b) else Err LengthsDiffer
 
 -- the list of what a function gives of the elements of three lists at each index
 abbrev pub zip3 : {A B C D : Type 0} → (A → B → C → D) → List A → List B → List C → List D
@@ -142,9 +132,7 @@ StoresBytes memory a bytes memory' status = Leaves (memory_after memory a bytes)
 
 -- what a load gives by its number
 abbrev pub load_result : ℕ → List ℕ → ℕ → Result RawVal Refusal
-load_result number memory a = do
-  op ← known (load_numbered number)
-  or_trap (loaded_value op memory a)
+load_result number memory a = do op ← known (load_numbered number); or_trap (loaded_value op memory a)
 
 -- what a load gives for one pointer of an array, plus an offset
 unfoldable pub load_outcome : Load → List ℕ → ℕ → ℕ → InstructionResult
@@ -152,15 +140,13 @@ load_outcome op memory offset ptr = result_of (loaded_value op memory (ptr + off
 
 -- what a load gives by its number for each pointer of an array, with one offset
 abbrev pub load_results : ℕ → List ℕ → List ℕ → ℕ → ℕ → Result (List InstructionResult) Refusal
-load_results number memory ptrs offset count = do
-  op ← known (load_numbered number)
-  each_of (load_outcome op memory offset) ptrs count
+load_results number memory ptrs offset count =
+    do op ← known (load_numbered number); each_of (load_outcome op memory offset) ptrs count
 
 -- the memory after a store by its number
 abbrev pub store_result : ℕ → List ℕ → ℕ → RawVal → Result (List ℕ) Refusal
-store_result number memory a value = do
-  op ← known (store_numbered number)
-  memory_after memory a (stored_value op value)
+store_result number memory a value =
+    do op ← known (store_numbered number); memory_after memory a (stored_value op value)
 
 -- the value that an instruction of one operand gives
 abbrev pub unary_value : Unary → RawVal → RawVal
@@ -182,15 +168,11 @@ unary_numbered number = slice_get UNARY_INSTRUCTIONS number
 
 -- what an instruction of one operand gives by its number
 abbrev pub unary_result : ℕ → RawVal → Result RawVal Refusal
-unary_result number a = do
-  op ← known (unary_numbered number)
-  Ok (unary_value op a)
+unary_result number a = do op ← known (unary_numbered number); Ok (unary_value op a)
 
 -- what an instruction of one operand gives by its number for each element of an array
 abbrev pub unary_results : ℕ → List RawVal → ℕ → Result (List RawVal) Refusal
-unary_results number a count = do
-  op ← known (unary_numbered number)
-  each_of (unary_value op) a count
+unary_results number a count = do op ← known (unary_numbered number); each_of (unary_value op) a count
 
 -- the value that an instruction of two operands gives, or its trap
 abbrev pub binary_value : Binary → RawVal → RawVal → Result RawVal TrapCode
@@ -210,9 +192,7 @@ binary_numbered number = slice_get BINARY_INSTRUCTIONS number
 
 -- what an instruction of two operands gives by its number
 abbrev pub binary_result : ℕ → RawVal → RawVal → Result RawVal Refusal
-binary_result number a b = do
-  op ← known (binary_numbered number)
-  or_trap (binary_value op a b)
+binary_result number a b = do op ← known (binary_numbered number); or_trap (binary_value op a b)
 
 -- what an instruction of two operands gives for one element of an array
 unfoldable pub binary_outcome : Binary → RawVal → RawVal → InstructionResult
@@ -220,33 +200,25 @@ binary_outcome op a b = result_of (binary_value op a b)
 
 -- what an instruction of two operands gives by its number for the elements of two arrays at each index
 abbrev pub binary_results : ℕ → List RawVal → List RawVal → ℕ → Result (List InstructionResult) Refusal
-binary_results number a b count = do
-  op ← known (binary_numbered number)
-  each_of_two (binary_outcome op) a b count
+binary_results number a b count = do op ← known (binary_numbered number); each_of_two (binary_outcome op) a b count
 
--- the value that an instruction of three vectors gives
+-- the value that a call of an instruction of three vectors gives
 abbrev pub ternary_value : TernaryOp → RawVal → RawVal → RawVal → RawVal
 ternary_value op a b c = raw_of_vector (ternary_vector op (vector_in a) (vector_in b) (vector_in c))
 
 -- what an instruction of three vectors gives by its number
 abbrev pub ternary_result : ℕ → RawVal → RawVal → RawVal → Result RawVal Refusal
-ternary_result number a b c = do
-  op ← known (op_numbered TERNARIES number)
-  Ok (ternary_value op a b c)
+ternary_result number a b c = do op ← known (op_numbered TERNARIES number); Ok (ternary_value op a b c)
 
 -- what an instruction of three vectors gives by its number for the elements of three arrays at each index
-abbrev pub ternary_results
-    : ℕ → List RawVal → List RawVal → List RawVal → ℕ → Result (List RawVal) Refusal
-ternary_results number a b c count = do
-  op ← known (op_numbered TERNARIES number)
-  each_of_three (ternary_value op) a b c count
+abbrev pub ternary_results : ℕ → List RawVal → List RawVal → List RawVal → ℕ → Result (List RawVal) Refusal
+ternary_results number a b c count =
+    do op ← known (op_numbered TERNARIES number); each_of_three (ternary_value op) a b c count
 
 -- the instruction that has a number in a list of kinds, on the lane of an index
 abbrev pub op_on_lane
     : {Name Kind Op : Type 0} → (Kind → ℕ → Option Op) → List (Name × Kind) → ℕ → ℕ → Result Op Refusal
-op_on_lane on kinds number lane = do
-  kind ← known (op_numbered kinds number)
-  ok_or (on kind lane) NoLane
+op_on_lane on kinds number lane = do kind ← known (op_numbered kinds number); ok_or (on kind lane) NoLane
 
 -- the extraction that has a number, on the lane of an index
 abbrev pub extraction_of : ℕ → ℕ → Result ExtractOp Refusal
@@ -264,7 +236,7 @@ lane_load_of number lane = op_on_lane load_lane_op LANE_LOADS number lane
 abbrev pub lane_store_of : ℕ → ℕ → Result StoreLaneOp Refusal
 lane_store_of number lane = op_on_lane store_lane_op LANE_STORES number lane
 
--- the value that an extraction gives
+-- the value that a call of an extraction gives
 abbrev pub extracted_value : ExtractOp → RawVal → RawVal
 extracted_value op a = extracted_raw op (vector_in a)
 
@@ -274,39 +246,30 @@ replaced_value op a item = raw_of_vector (replaced_vector op (vector_in a) item)
 
 -- what an extraction gives by its number and its lane
 abbrev pub extract_result : ℕ → ℕ → RawVal → Result RawVal Refusal
-extract_result number lane a = do
-  op ← extraction_of number lane
-  Ok (extracted_value op a)
+extract_result number lane a = do op ← extraction_of number lane; Ok (extracted_value op a)
 
 -- what an extraction gives by its number and its lane for each vector of an array
 abbrev pub extract_results : ℕ → ℕ → List RawVal → ℕ → Result (List RawVal) Refusal
-extract_results number lane a count = do
-  op ← extraction_of number lane
-  each_of (extracted_value op) a count
+extract_results number lane a count = do op ← extraction_of number lane; each_of (extracted_value op) a count
 
 -- what a replacement gives by its number and its lane
 abbrev pub replace_result : ℕ → ℕ → RawVal → RawVal → Result RawVal Refusal
-replace_result number lane a item = do
-  op ← replacement_of number lane
-  Ok (replaced_value op a item)
+replace_result number lane a item = do op ← replacement_of number lane; Ok (replaced_value op a item)
 
 -- what a replacement gives by its number and its lane for each vector of an array and the item at its index
 abbrev pub replace_results : ℕ → ℕ → List RawVal → List RawVal → ℕ → Result (List RawVal) Refusal
-replace_results number lane a items count = do
-  op ← replacement_of number lane
-  each_of_two (replaced_value op) a items count
+replace_results number lane a items count =
+    do op ← replacement_of number lane; each_of_two (replaced_value op) a items count
 
 -- what a load of a lane gives by its number and its lane
 abbrev pub load_lane_result : ℕ → ℕ → List ℕ → ℕ → RawVal → Result RawVal Refusal
-load_lane_result number lane memory address a = do
-  op ← lane_load_of number lane
-  or_trap (as_raw raw_of_vector (loaded_lane op (vector_in a) memory address))
+load_lane_result number lane memory address a =
+    do op ← lane_load_of number lane; or_trap (as_raw raw_of_vector (loaded_lane op (vector_in a) memory address))
 
 -- the memory after a store of a lane by its number and its lane
 abbrev pub store_lane_result : ℕ → ℕ → List ℕ → ℕ → RawVal → Result (List ℕ) Refusal
-store_lane_result number lane memory address a = do
-  op ← lane_store_of number lane
-  memory_after memory address (stored_lane op (vector_in a))
+store_lane_result number lane memory address a =
+    do op ← lane_store_of number lane; memory_after memory address (stored_lane op (vector_in a))
 
 -- the lanes of two vectors of bytes that have these indices, if there are such lanes
 abbrev pub lanes_of : List ℕ → Option (List ℕ)
@@ -314,6 +277,5 @@ lanes_of indices = where_true (list_all (λ index. nat_lt index 32)) indices
 
 -- what the shuffle gives, if each index is one of a lane
 abbrev pub shuffle_result : RawVal → RawVal → List ℕ → Result RawVal Refusal
-shuffle_result a b indices = do
-  lanes ← ok_or (lanes_of indices) NoLane
-  Ok (raw_of_vector (vector.shuffle (vector_in a) (vector_in b) lanes))
+shuffle_result a b indices =
+    do lanes ← ok_or (lanes_of indices) NoLane; Ok (raw_of_vector (vector.shuffle (vector_in a) (vector_in b) lanes))

@@ -3,8 +3,7 @@ use Rattle.std.specs.Prelude.{Some}
 use Rattle.std.specs.Borrow.{Fml, Lends, MutBor}
 use Rattle.wasmi_budget.specs.Pool.{PoolValue}
 use Rattle.wasmi_c.specs.Machine.Caps.{MachineValue}
-use Rattle.wasmi_c.specs.declared.machine.machine_box.MachineBox.{MachineBox}
-use Rattle.wasmi_c.specs.declared.pool.pool_box.PoolBox.{PoolBox}
+use Rattle.wasmi_c.specs.declared.{machine.machine_box.MachineBox.MachineBox, pool.pool_box.PoolBox.PoolBox}
 use Rattle.wasmi_c.specs.contracts.machine.limited_machine.LimitedMachine as machine
 use Rattle.wasmi_c.specs.contracts.machine.machine_box.MachineBox as machine_box
 use Rattle.wasmi_c.specs.contracts.pool.TenantPool as pool

@@ -1,9 +1,8 @@
 -- What the calls on a memory do to what lies with C.
 use Rattle.std.specs.Prelude.{◌≡◌, ◌+◌, ◌/◌, ◌⊎◌, ℕ, List, take, length, nat_eq, if◌then◌else◌, Option, Some, None}
 use Rattle.wasmi_types.specs.Access.{at, overwrite}
-use Rattle.wasmi_meter.specs.declared.error.MemoryError.{MemoryError}
+use Rattle.wasmi_meter.specs.declared.{error.MemoryError.MemoryError, quota.Quota.Quota}
 use Rattle.wasmi_meter.specs.declared.error.MemoryError.TheVariants as error
-use Rattle.wasmi_meter.specs.declared.quota.Quota.{Quota}
 use Rattle.wasmi_meter.specs.Limiter.{optional_rules}
 use Rattle.wasmi_meter.specs.Capped.{quota_rules}
 use Rattle.wasmi_store.specs.Buffer.{Lent}
@@ -17,20 +16,18 @@ use Rattle.wasmi_c.specs.Placement.{Placement, AsksAs, ByType, ByTypes, EndsBy, 
 use Rattle.wasmi_meter.specs.declared.limiter.Kind.TheVariants.{Bytes}
 use Rattle.wasmi_c.specs.Status.{memory_status}
 use Rattle.wasmi_c.specs.declared.status.TheConstants.{DONE, MEMORY_GROWTH, MEMORY_ACCESS, INVALID_STATE}
-use Rattle.wasmi_c.specs.declared.host.Question.{Question}
-use Rattle.wasmi_c.specs.declared.numbers.MemoryNumbers.{MemoryNumbers}
-use Rattle.wasmi_c.specs.declared.numbers.Range.{Range}
+use Rattle.wasmi_c.specs.declared.{host.Question.Question, numbers.MemoryNumbers.MemoryNumbers, numbers.Range.Range}
 
 -- the fuel that a call on a memory needs, after an error; else the number stays
 abbrev pub memory_fuel_needed : MemoryError → ℕ → ℕ
 memory_fuel_needed (error.OutOfFuel required) before = required
 memory_fuel_needed other before = before
 
--- the numbers of a memory have no valid type
+-- no call makes the memory: its numbers have no valid type
 abbrev pub IsNoType : MemoryNumbers → Type 0
 IsNoType h = (ty : MemoryTypeValue) → named_type (settings_of h) ≡ Some ty → IsValid ty → ⊥
 
--- a memory's numbers stand for a memory
+-- a memory as the calls on it have it: its numbers stand for it
 abbrev pub of_memory : Placement MemoryNumbers MemoryTypeValue MemoryValue MemoryError
 of_memory = record {
   IsAt = IsState;
@@ -114,6 +111,5 @@ WritesBytesEmbedded written range h s status s' =
 -- a copy from another memory by a call
 abbrev pub CopiesBytesEmbedded : Placed MemoryNumbers → Range → MemoryNumbers → MeteredRegion → ℕ → MeteredRegion
     → Type 0
-CopiesBytesEmbedded source range h s status s' =
-    ByTypes of_memory source (placed h s.region) status (s' ≡ s) (λ ty source_ty.
-    WritesBytesAs (copied_range (take source.numbers.size source.region)) range h.size s status s')
+CopiesBytesEmbedded source range h s status s' = ByTypes of_memory source (placed h s.region) status (s' ≡ s)
+    (λ ty source_ty. WritesBytesAs (copied_range (take source.numbers.size source.region)) range h.size s status s')

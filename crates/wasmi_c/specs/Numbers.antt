@@ -2,9 +2,8 @@
 -- them and of their region, and what a growth or a write takes besides: a region, a meter and a limiter.
 use Rattle.std.specs.Prelude.{◌≡◌, ◌≤◌, ◌⊎◌, ℕ, List, length, drop, Option, Some, None, Bool, true, nat_eq, if◌then◌else◌}
 use Rattle.std.specs.Option.{unwrap_or}
-use Rattle.wasmi_meter.specs.declared.limiter.Kind.{Kind}
+use Rattle.wasmi_meter.specs.declared.{limiter.Kind.Kind, quota.Quota.Quota}
 use Rattle.wasmi_meter.specs.declared.limiter.Kind.TheVariants.{Bytes, Elements}
-use Rattle.wasmi_meter.specs.declared.quota.Quota.{Quota}
 use Rattle.wasmi_meter.specs.Limiter.{Rules, optional_rules}
 use Rattle.wasmi_meter.specs.Meter.{Meter}
 use Rattle.wasmi_meter.specs.Capped.{holdings, quota_rules, Releases}
@@ -14,10 +13,7 @@ use Rattle.wasmi_store.specs.Table as table
 use Rattle.wasmi_store.specs.Table.{TableTypeValue}
 use Rattle.wasmi_c.specs.Types as types
 use Rattle.wasmi_c.specs.Types.{if_flag}
-use Rattle.wasmi_c.specs.declared.numbers.MemoryNumbers.{MemoryNumbers}
-use Rattle.wasmi_c.specs.declared.numbers.TableNumbers.{TableNumbers}
-use Rattle.wasmi_c.specs.declared.numbers.MeterNumbers.{MeterNumbers}
-use Rattle.wasmi_c.specs.declared.numbers.QuotaNumbers.{QuotaNumbers}
+use Rattle.wasmi_c.specs.declared.{numbers.MemoryNumbers.MemoryNumbers, numbers.TableNumbers.TableNumbers, numbers.MeterNumbers.MeterNumbers, numbers.QuotaNumbers.QuotaNumbers}
 
 -- ---- memories and tables
 
@@ -101,8 +97,7 @@ pub record KeepsQuota (h h' : QuotaNumbers) : Type 0 where
 -- the limiter that a quota's numbers stand for, which may be absent, gives up so many of a kind, or not, and has the
 -- same caps; an absent one holds nothing
 abbrev pub ReleasesIf : Kind → ℕ → Option Quota → Bool → Option Quota → Type 0
-ReleasesIf kind n (Some l) released (Some l') =
-    Releases (holdings l) kind n released (holdings l') × (l'.caps ≡ l.caps)
+ReleasesIf kind n (Some l) released (Some l') = Releases (holdings l) kind n released (holdings l') × (l'.caps ≡ l.caps)
 ReleasesIf kind n None released None = released ≡ true
 ReleasesIf kind n l released l' = ⊥
 
@@ -121,8 +116,7 @@ quota_numbers_rules = record {
 
 -- ---- all that lies with C for a call
 
--- what a growth takes: the numbers that lie with C, their region, the numbers of a meter, and the limiter that it
--- asks, if there is one
+-- what a growth takes: numbers that lie with C, their region, a meter, the limiter that it asks, if any, and a number
 pub record Embedded (H S : Type 0) : Type 0 where
   pub numbers : H
   pub region : List ℕ
@@ -135,8 +129,7 @@ abbrev pub embedded : {H S : Type 0} → H → List ℕ → MeterNumbers → Opt
 embedded numbers region meter limiter number =
     record { numbers = numbers; region = region; meter = meter; limiter = limiter; number = number }
 
--- what a write over a range takes besides the numbers of a memory or a table: their region, the numbers of a meter,
--- and a number
+-- what a write over a range takes besides a memory's or a table's numbers: their region, a meter, and a number
 pub record MeteredRegion : Type 0 where
   pub region : List ℕ
   pub meter : MeterNumbers

@@ -1,16 +1,14 @@
 -- What the calls on a memory or a table do to what lies with C, whichever of the two it is, and which limiters allow
 -- the host's answers to one.
 use Rattle.std.specs.Prelude.{◌≡◌, ◌<◌, ◌⊎◌, ℕ, Bool, true, false, List, take, MatchBool, OnErr, Some, Result, Ok, Err, nat_eq, if◌then◌else◌, Option}
-use Rattle.wasmi_meter.specs.declared.limiter.Kind.{Kind}
-use Rattle.wasmi_meter.specs.declared.quota.Quota.{Quota}
+use Rattle.wasmi_meter.specs.declared.{limiter.Kind.Kind, quota.Quota.Quota}
 use Rattle.wasmi_meter.specs.Limiter.{optional_rules, Rules}
 use Rattle.wasmi_meter.specs.Meter.{Meter}
 use Rattle.wasmi_store.specs.Growth.{Growth, Grows, metered_value, Makes}
 use Rattle.wasmi_c.specs.Host.{fresh, host_rules, is_about, plain_sizes, answer_of, notice_answer_of, memory_growth}
 use Rattle.wasmi_c.specs.Numbers.{meter_of, KeepsMeter, Embedded, MeteredRegion, Placed, ReleasesIf, SameRest}
 use Rattle.wasmi_c.specs.declared.status.TheConstants.{DONE, INVALID_STATE, ASKS, NOT_HELD, OTHER_SIZE}
-use Rattle.wasmi_c.specs.declared.host.HostAnswers.{HostAnswers}
-use Rattle.wasmi_c.specs.declared.host.Question.{Question}
+use Rattle.wasmi_c.specs.declared.{host.HostAnswers.HostAnswers, host.Question.Question}
 use Rattle.wasmi_meter.specs.Attempt.{Request}
 use Rattle.wasmi_store.specs.Buffer.{Room}
 use Rattle.wasmi_store.specs.Memory.{MemoryValue, creation_of, new_memory, MemoryTypeValue}
@@ -75,20 +73,19 @@ module _ {H T V E : Type 0} (p : Placement H T V E) where
   -- stand for the value again; the meter's numbers stay except for what is left; the region past the value stays, or
   -- all of it after an error
   pub record GrowsAs {S : Type 0} (rules : Rules S) (growth : List ℕ → V → Growth V E) (ty : T) (s : Embedded H S)
-      (status : ℕ) (s' : Embedded H S) : Type 0
-    where
-      pub result : Result ℕ E
-      pub grows : (charge : ℕ)
-          × Grows (optional_rules rules) (growth s.region (p.value ty s.region (p.size s.numbers)))
-          (metered_value (p.value ty s.region (p.size s.numbers)) (Some (meter_of s.meter)) s.limiter) result charge
-          (metered_value (p.value ty s'.region (p.size s'.numbers)) (Some (meter_of s'.meter)) s'.limiter)
-      pub state : p.IsAt s'.numbers s'.region ty
-      pub numbers : s'.numbers ≡ p.resized s.numbers (p.size s'.numbers)
-      pub meter : KeepsMeter s.meter s'.meter
-      pub rest : SameRest (p.size s'.numbers) s.region s'.region
-      pub refused : OnErr result (s'.region ≡ s.region)
-      pub status_is : status ≡ status_of result
-      pub number_is : s'.number ≡ grown_number result s.number
+      (status : ℕ) (s' : Embedded H S) : Type 0 where
+    pub result : Result ℕ E
+    pub grows : (charge : ℕ)
+        × Grows (optional_rules rules) (growth s.region (p.value ty s.region (p.size s.numbers)))
+        (metered_value (p.value ty s.region (p.size s.numbers)) (Some (meter_of s.meter)) s.limiter) result charge
+        (metered_value (p.value ty s'.region (p.size s'.numbers)) (Some (meter_of s'.meter)) s'.limiter)
+    pub state : p.IsAt s'.numbers s'.region ty
+    pub numbers : s'.numbers ≡ p.resized s.numbers (p.size s'.numbers)
+    pub meter : KeepsMeter s.meter s'.meter
+    pub rest : SameRest (p.size s'.numbers) s.region s'.region
+    pub refused : OnErr result (s'.region ≡ s.region)
+    pub status_is : status ≡ status_of result
+    pub number_is : s'.number ≡ grown_number result s.number
 
   -- a growth by a call
   abbrev pub GrowsBy : {S : Type 0} → Rules S → (List ℕ → V → Growth V E) → Embedded H S → ℕ → Embedded H S → Type 0
@@ -117,24 +114,22 @@ module _ {H T V E : Type 0} (p : Placement H T V E) where
   LeavesAs ty a (Err e) a' = a' ≡ a
 
   -- a value of a type is made at the front of a region, as one of the library is
-  pub record MakesAs (Makes : Result V E → Type 0) (ty : T) (a : Placed H) (status : ℕ) (a' : Placed H) : Type 0
-    where
-      pub result : Result ℕ E
-      pub makes : Makes (p.made ty a'.region result)
-      pub status_is : status ≡ status_of result
-      pub left : LeavesAs ty a result a'
+  pub record MakesAs (Makes : Result V E → Type 0) (ty : T) (a : Placed H) (status : ℕ) (a' : Placed H) : Type 0 where
+    pub result : Result ℕ E
+    pub makes : Makes (p.made ty a'.region result)
+    pub status_is : status ≡ status_of result
+    pub left : LeavesAs ty a result a'
 
   -- a part of a value is written over, as of one of the library; the rest of the region stays, and the meter's numbers
   -- except for what is left
   pub record WritesAs (Writes : List ℕ → Meter → Result (Unit {0}) E → List ℕ → Meter → Type 0) (size : ℕ)
-      (s : MeteredRegion) (status : ℕ) (s' : MeteredRegion) : Type 0
-    where
-      pub result : Result (Unit {0}) E
-      pub writes : Writes (take size s.region) (meter_of s.meter) result (take size s'.region) (meter_of s'.meter)
-      pub rest : SameRest size s.region s'.region
-      pub kept : KeepsMeter s.meter s'.meter
-      pub status_is : status ≡ status_of result
-      pub number_is : s'.number ≡ written_number result s.number
+      (s : MeteredRegion) (status : ℕ) (s' : MeteredRegion) : Type 0 where
+    pub result : Result (Unit {0}) E
+    pub writes : Writes (take size s.region) (meter_of s.meter) result (take size s'.region) (meter_of s'.meter)
+    pub rest : SameRest size s.region s'.region
+    pub kept : KeepsMeter s.meter s'.meter
+    pub status_is : status ≡ status_of result
+    pub number_is : s'.number ≡ written_number result s.number
 
 -- the three states of a limiter that allows the host's answers: before the question, after it, and after a notice
 pub record Limited (S : Type 0) : Type 0 where
@@ -146,8 +141,7 @@ pub record Limited (S : Type 0) : Type 0 where
 abbrev pub limiter_after : {S : Type 0} → HostAnswers → Limited S → S
 limiter_after a l = if nat_eq a.told 1 then l.told else (if nat_eq a.asked 1 then l.asked else l.before)
 
--- rules allow the host's answers to a request: to its question if it was asked, and to a notice of any cause if it was
--- told
+-- rules allow the host's answers to a request: to its question, if asked, and to a notice of any cause, if told
 pub record Allows {V E S : Type 0} (rules : Rules S) (e : Request V E) (a : HostAnswers) (l : Limited S) : Type 0 where
   pub asks : a.asked ≡ 1 → rules.asked l.before e.question (answer_of a.answer) l.asked
   pub tells : a.told ≡ 1
@@ -164,8 +158,7 @@ SettlesGrowth {V = V} {E = E} {S = S} rules g x =
 
 -- a creation by the host's answers is one by rules that allow these answers
 abbrev pub SettlesCreation : {T E S : Type 0} → Rules S → Request (Unit {0}) E → T → Type 0
-SettlesCreation {T = T} {E = E} {S = S} rules e made =
-    (a a' : HostAnswers) (l : Limited S) (result : Result T E)
+SettlesCreation {T = T} {E = E} {S = S} rules e made = (a a' : HostAnswers) (l : Limited S) (result : Result T E)
     → Makes (optional_rules host_rules) e made (Some (fresh a)) result (Some a') → Allows rules e a' l
     → Makes rules e made l.before result (limiter_after a' l)
 

@@ -4,9 +4,8 @@ use Rattle.std.specs.Global.{Global}
 use Rattle.wasmi_meter.specs.declared.limiter.Kind.TheVariants.{Bytes, Elements}
 use Rattle.wasmi_machine.specs.State.{State, new_state, total}
 use Rattle.wasmi_machine.specs.Steps.{SomeCopy}
-use Rattle.wasmi_machine.specs.declared.calls.Call.{Call}
+use Rattle.wasmi_machine.specs.declared.{calls.Call.Call, calls.Reply.Reply}
 use Rattle.wasmi_machine.specs.declared.calls.Call.TheVariants.{NewSegment}
-use Rattle.wasmi_machine.specs.declared.calls.Reply.{Reply}
 use Rattle.wasmi_budget.specs.Pool.{PoolValue, AddsTenant, IsWithinCaps, RemovesTenant, RunsTenant, machine_of, total_of}
 use Rattle.wasmi_grammar.specs.Lines.{WritesScript}
 use Rattle.wasmi_grammar.specs.declared.script.Script.{Script}
@@ -16,11 +15,7 @@ use Rattle.wasmi_c.specs.Machine.NewMachines.{meter_with}
 use Rattle.wasmi_c.specs.Machine.Replies.{only, with_number, reply_struct, status_of}
 use Rattle.wasmi_c.specs.Types.{reference_type_of}
 use Rattle.wasmi_c.specs.declared.status.TheConstants.{DONE, HAS_POOL, NO_CALL, NO_POOL, NO_ROOM, NO_TENANT}
-use Rattle.wasmi_c.specs.declared.machine.call_struct.CallStruct.{CallStruct}
-use Rattle.wasmi_c.specs.declared.machine.limits.Limits.{Limits}
-use Rattle.wasmi_c.specs.declared.machine.limits.Room.{Room}
-use Rattle.wasmi_c.specs.declared.machine.limits.Totals.{Totals}
-use Rattle.wasmi_c.specs.declared.machine.reply_struct.ReplyStruct.{ReplyStruct}
+use Rattle.wasmi_c.specs.declared.{machine.call_struct.CallStruct.CallStruct, machine.limits.Limits.Limits, machine.limits.Room.Room, machine.limits.Totals.Totals, machine.reply_struct.ReplyStruct.ReplyStruct}
 
 -- a pool with these caps and no tenant
 abbrev pub new_pool : ℕ → ℕ → PoolValue
@@ -41,8 +36,7 @@ KeepsCaps (Some pool) (Some pool') = IsWithinCaps pool' × (pool'.caps ≡ pool.
 -- a machine with nothing on it is added, with its meter; or memory is refused, and the pool is the same
 abbrev pub AddsNewTenant : Limits → ReplyStruct → PoolValue → PoolValue → Type 0
 AddsNewTenant limits reply pool pool' = ((reply ≡ only NO_ROOM) × (pool' ≡ pool))
-    ⊎ (AddsTenant pool (new_state (meter_with limits)) pool'
-    × (reply ≡ with_number DONE (length pool.machines)))
+    ⊎ (AddsTenant pool (new_state (meter_with limits)) pool' × (reply ≡ with_number DONE (length pool.machines)))
 
 -- no tenant has the index, or there is one and memory for the replies is refused
 abbrev pub RefusesTenant : ℕ → PoolValue → ReplyStruct → Type 0
@@ -62,22 +56,18 @@ CallsTenant tenant call pool pool' Refused Replied = ((machine_of pool tenant �
 
 -- a call on a tenant's machine is replied to with a struct
 unfoldable pub TenantReplies : ℕ → Call → ReplyStruct → PoolValue → PoolValue → Type 0
-TenantReplies tenant call reply pool pool' = CallsTenant tenant call pool pool'
-    (reply ≡ only NO_TENANT)
-    (λ full. reply ≡ reply_struct full)
+TenantReplies tenant call reply pool pool' =
+    CallsTenant tenant call pool pool' (reply ≡ only NO_TENANT) (λ full. reply ≡ reply_struct full)
 
 -- a call on a tenant's machine is replied to with a status and a word; where there is no call, the pool and the word stay
 unfoldable pub TenantRepliesInWord : ℕ → Option Call → ℕ → ℕ × ℕ → PoolValue → PoolValue → Type 0
-TenantRepliesInWord tenant called word left pool pool' = MatchOption called
-    ((left ≡ (NO_CALL, word)) × (pool' ≡ pool))
-    (λ call. CallsTenant tenant call pool pool'
-    (left ≡ (NO_TENANT, word))
+TenantRepliesInWord tenant called word left pool pool' = MatchOption called ((left ≡ (NO_CALL, word)) × (pool' ≡ pool))
+    (λ call. CallsTenant tenant call pool pool' (left ≡ (NO_TENANT, word))
     (λ full. left ≡ (status_of full, word_after full word)))
 
 -- a call on a tenant's machine is replied to with a status; where there is no call, the pool stays
 unfoldable pub TenantRepliesInStatus : ℕ → Option Call → ℕ → PoolValue → PoolValue → Type 0
-TenantRepliesInStatus tenant called status pool pool' = MatchOption called
-    ((status ≡ NO_CALL) × (pool' ≡ pool))
+TenantRepliesInStatus tenant called status pool pool' = MatchOption called ((status ≡ NO_CALL) × (pool' ≡ pool))
     (λ call. CallsTenant tenant call pool pool' (status ≡ NO_TENANT) (λ full. status ≡ status_of full))
 
 -- the call that numbers stand for is replied to on a tenant's machine; where they stand for none, the pool is the same
@@ -87,20 +77,16 @@ TenantRepliesToStruct tenant numbers reply pool pool' = MatchOption (call_of num
     (λ call. TenantReplies tenant call reply pool pool')
 
 -- a call on a tenant's machine that takes the caller's list is replied to
-unfoldable pub TenantRepliesToItems
-    : ℕ → (Vec ℕ Global → Call) → List ℕ → ReplyStruct → PoolValue → PoolValue → Type 0
+unfoldable pub TenantRepliesToItems : ℕ → (Vec ℕ Global → Call) → List ℕ → ReplyStruct → PoolValue → PoolValue → Type 0
 TenantRepliesToItems tenant call items reply pool pool' =
     SomeCopy items (λ copy. TenantReplies tenant (call copy) reply pool pool')
 
--- a call on a tenant's machine that takes a copy of the list is replied to; or memory for the copy is refused, and the
--- pool is the same
-unfoldable pub TenantRepliesToCopy
-    : ℕ → (Vec ℕ Global → Call) → List ℕ → ReplyStruct → PoolValue → PoolValue → Type 0
+-- a tenant's machine replies to a call that takes a copy of the list, or memory for it is refused: the pool is the same
+unfoldable pub TenantRepliesToCopy : ℕ → (Vec ℕ Global → Call) → List ℕ → ReplyStruct → PoolValue → PoolValue → Type 0
 TenantRepliesToCopy tenant call items reply pool pool' = ((reply ≡ only NO_ROOM) × (pool' ≡ pool))
     ⊎ TenantRepliesToItems tenant call items reply pool pool'
 
--- the making of an element segment on a tenant's machine is replied to; where the number is none of a reference type,
--- the pool is the same
+-- a tenant's machine replies to the making of a segment; where no reference type has the number, the pool is the same
 abbrev pub TenantRepliesToSegment : ℕ → ℕ → List ℕ → ReplyStruct → PoolValue → PoolValue → Type 0
 TenantRepliesToSegment tenant ty items reply pool pool' = MatchOption (reference_type_of ty)
     ((reply ≡ only NO_CALL) × (pool' ≡ pool))
@@ -122,8 +108,7 @@ TenantReserves tenant room status pool pool' = MatchOption (machine_of pool tena
     ((status ≡ NO_TENANT) × (pool' ≡ pool))
     (λ machine. ReservesIn pool (with_machine_at pool tenant) room machine status pool')
 
--- memory is reserved for elements of a table of a tenant, or it is refused, and all else is the same; where there is no
--- such tenant, the pool is
+-- memory for a tenant's elements is reserved or refused, and all else stays; without such a tenant the pool is the same
 abbrev pub TenantReservesElements : ℕ → ℕ → ℕ → ℕ → PoolValue → PoolValue → Type 0
 TenantReservesElements tenant table elements status pool pool' = MatchOption (machine_of pool tenant)
     ((status ≡ NO_TENANT) × (pool' ≡ pool))
@@ -137,11 +122,9 @@ TenantRepliesToList tenant calls old left pool pool' = MatchOption (machine_of p
     (λ machine. RepliesInTurn (λ numbers before reply after. TenantRepliesToStruct tenant numbers reply before after)
     calls pool old left pool')
 
--- the bytes of a memory of a tenant are copied to the caller's; where there is no such tenant, the caller's stay; the
--- pool is the same
+-- a tenant's bytes are copied to the caller's, which stay where there is no such tenant; the pool is the same
 abbrev pub TenantReadsOut : ℕ → ℕ → ℕ → List ℕ → ReplyStruct → List ℕ → PoolValue → PoolValue → Type 0
-TenantReadsOut tenant memory offset old reply new pool pool' = (pool' ≡ pool)
-    × MatchOption (machine_of pool tenant)
+TenantReadsOut tenant memory offset old reply new pool pool' = (pool' ≡ pool) × MatchOption (machine_of pool tenant)
     ((reply ≡ only NO_TENANT) × (new ≡ old))
     (λ machine. ReadsOut memory offset machine old reply new)
 

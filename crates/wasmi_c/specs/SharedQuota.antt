@@ -1,9 +1,8 @@
 -- One quota over many memories and tables that lie with C.
 use Rattle.std.specs.Prelude.{◌≡◌, ◌≤◌, ◌⊎◌, ℕ, List, [], ◌∷◌, ◌++◌, All, sum, slice_get, slice_set, nat_eq, if◌then◌else◌, Option, Some}
 use Rattle.wasmi_meter.specs.Capped.{IsWithinCaps, quota_rules}
-use Rattle.wasmi_meter.specs.declared.limiter.Kind.{Kind}
+use Rattle.wasmi_meter.specs.declared.{limiter.Kind.Kind, quota.Quota.Quota}
 use Rattle.wasmi_meter.specs.declared.limiter.Kind.TheVariants.{Bytes, Elements}
-use Rattle.wasmi_meter.specs.declared.quota.Quota.{Quota}
 use Rattle.wasmi_store.specs.Growth.{Growth}
 use Rattle.wasmi_c.specs.MemoryCalls.{MakesEmbedded, by_pages, ended_memory, of_memory}
 use Rattle.wasmi_c.specs.Numbers.{Embedded, KeepsQuota, Placed, limiter_of, quota_of}
@@ -34,7 +33,7 @@ abbrev pub sizes_of : UnderQuota → Kind → List ℕ
 sizes_of u Bytes = u.bytes
 sizes_of u Elements = u.elements
 
--- the kind that isn't this one
+-- under one quota, the kind that isn't this one
 abbrev pub other : Kind → Kind
 other Bytes = Elements
 other Elements = Bytes
@@ -42,14 +41,13 @@ other Elements = Bytes
 module _ {H T V E : Type 0} (p : Placement H T V E) (kind : Kind) where
   -- a memory or a table is made under a quota by a call
   pub record MakesUnder (Makes : Placed H → Option Quota → ℕ → Placed H → Option Quota → Type 0) (u u' : UnderQuota)
-      : Type 0
-    where
-      pub before : Placed H
-      pub status : ℕ
-      pub after : Placed H
-      pub makes : Makes before (limiter_of u.quota) status after (limiter_of u'.quota)
-      pub sizes : sizes_of u' kind ≡ sizes_made (sizes_of u kind) status (p.size after.numbers)
-      pub others : sizes_of u' (other kind) ≡ sizes_of u (other kind)
+      : Type 0 where
+    pub before : Placed H
+    pub status : ℕ
+    pub after : Placed H
+    pub makes : Makes before (limiter_of u.quota) status after (limiter_of u'.quota)
+    pub sizes : sizes_of u' kind ≡ sizes_made (sizes_of u kind) status (p.size after.numbers)
+    pub others : sizes_of u' (other kind) ≡ sizes_of u (other kind)
 
   -- a memory or a table grows under a quota by a call
   pub record GrowsUnder (growth : List ℕ → V → Growth V E) (u u' : UnderQuota) : Type 0 where
@@ -93,8 +91,7 @@ CallsInTurn u (u' ∷ after) = CallsUnder u u' × CallsInTurn u' after
 
 -- after each of the calls in turn a quota holds the sums of the sizes, within its caps, if it did at first
 abbrev pub OneQuotaHoldsAll : Type 0
-OneQuotaHoldsAll =
-    (u : UnderQuota) (after : List UnderQuota) → HoldsSums u → CallsInTurn u after → All HoldsSums after
+OneQuotaHoldsAll = (u : UnderQuota) (after : List UnderQuota) → HoldsSums u → CallsInTurn u after → All HoldsSums after
 
 -- a quota that holds the sums of the sizes holds each of them, so it gives up what a memory or a table has that ends
 abbrev pub OneQuotaHoldsEach : Type 0

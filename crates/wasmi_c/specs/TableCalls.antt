@@ -1,8 +1,7 @@
 -- What the calls on a table do to what lies with C.
 use Rattle.std.specs.Prelude.{◌≡◌, ◌+◌, ℕ, List, take, length, MatchOption, Option, Some, Result, slice_get}
-use Rattle.wasmi_meter.specs.declared.error.TableError.{TableError}
+use Rattle.wasmi_meter.specs.declared.{error.TableError.TableError, quota.Quota.Quota}
 use Rattle.wasmi_meter.specs.declared.error.TableError.TheVariants as error
-use Rattle.wasmi_meter.specs.declared.quota.Quota.{Quota}
 use Rattle.wasmi_meter.specs.Limiter.{optional_rules}
 use Rattle.wasmi_meter.specs.Capped.{quota_rules}
 use Rattle.wasmi_store.specs.Growth.{Growth, metered}
@@ -13,16 +12,14 @@ use Rattle.wasmi_c.specs.Placement.{Placement, AsksAs, ByType, ByTypes, EndsBy, 
 use Rattle.wasmi_meter.specs.declared.limiter.Kind.TheVariants.{Elements}
 use Rattle.wasmi_c.specs.Status.{table_status}
 use Rattle.wasmi_c.specs.declared.status.TheConstants.{DONE, NO_ELEMENT, TABLE_GROWTH, INVALID_STATE}
-use Rattle.wasmi_c.specs.declared.host.Question.{Question}
-use Rattle.wasmi_c.specs.declared.numbers.TableNumbers.{TableNumbers}
-use Rattle.wasmi_c.specs.declared.numbers.Range.{Range}
+use Rattle.wasmi_c.specs.declared.{host.Question.Question, numbers.TableNumbers.TableNumbers, numbers.Range.Range}
 
 -- the fuel that a call on a table needs, after an error; else the number stays
 abbrev pub table_fuel_needed : TableError → ℕ → ℕ
 table_fuel_needed (error.OutOfFuel required) before = required
 table_fuel_needed other before = before
 
--- a table's numbers stand for a table
+-- a table as the calls on it have it: its numbers stand for it
 abbrev pub of_table : Placement TableNumbers TableTypeValue TableValue TableError
 of_table = record {
   IsAt = IsTable;

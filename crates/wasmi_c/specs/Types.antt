@@ -1,13 +1,11 @@
--- The types and meters that plain numbers stand for.
+-- The types and meters that plain numbers stand for, if their limits are in order.
 use Rattle.std.specs.Prelude.{ℕ, ◌^◌, Bool, true, ◌&&◌, nat_eq, nat_le, nat_lt, if◌then◌else◌, Option, Some, None, List, [], ◌∷◌}
 use Rattle.std.specs.List.{slice_get}
 use Rattle.std.specs.Option.{option_map_or, option_and_then}
 use Rattle.wasmi_types.specs.Value.{address_bits, reference_of}
-use Rattle.wasmi_types.specs.declared.index_ty.IndexType.{IndexType}
+use Rattle.wasmi_types.specs.declared.{index_ty.IndexType.IndexType, value.ValType.ValType, value.RefType.RefType}
 use Rattle.wasmi_types.specs.declared.index_ty.IndexType.TheVariants.{I32, I64}
-use Rattle.wasmi_types.specs.declared.value.ValType.{ValType}
 use Rattle.wasmi_types.specs.declared.value.ValType.TheVariants as types
-use Rattle.wasmi_types.specs.declared.value.RefType.{RefType}
 use Rattle.wasmi_meter.specs.Meter.{Meter}
 use Rattle.wasmi_meter.specs.declared.fuel.CustomFuelCosts.{CustomFuelCosts}
 use Rattle.wasmi_store.specs.Memory.{MemoryTypeValue, Settings, named_type, greatest_pages}
@@ -51,16 +49,16 @@ settings_of minimum maximum is_64 page_size_log2 = record {
   maximum = maximum;
 }
 
--- whether limits are in order and within what the address type reaches
+-- whether limits that numbers say are in order and within what the address type reaches
 abbrev pub is_memory_type : MemoryTypeValue → Bool
 is_memory_type ty = nat_le ty.minimum (greatest_pages ty)
     && option_map_or (λ most. nat_le ty.minimum most && nat_le most (greatest_pages ty)) ty.maximum true
 
--- the type of a memory, if there is such a type
+-- the type of a memory by what numbers say of it, if there is such a type
 abbrev pub memory_type_of : Settings → Option MemoryTypeValue
 memory_type_of settings = option_and_then (where_true is_memory_type) (named_type settings)
 
--- whether limits are in order and below the number of indices
+-- whether limits that numbers say are in order and below the number of indices
 abbrev pub is_table_type : TableTypeValue → Bool
 is_table_type ty = nat_lt ty.minimum (2 ^ address_bits ty.index)
     && option_map_or (λ most. nat_le ty.minimum most && nat_lt most (2 ^ address_bits ty.index)) ty.maximum true

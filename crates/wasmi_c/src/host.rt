@@ -1,4 +1,4 @@
-//! A limiter of the host's own: what a growth asks it, and what it answered.
+//! A limiter of the host's own: the structs of a question to it and of its answers.
 ghost use Rattle.std.specs.Prelude.{◌≡◌};
 ghost use Rattle.wasmi_c.specs.Host.{fresh, host_rules, plain_sizes};
 

@@ -1,5 +1,5 @@
-//! How a memory whose bytes are the first of a region that lies with C is made, grows, is read and is
-//! written. `number` is set to the fuel that is needed where less is left.
+//! How a memory whose bytes are the first of a region that lies with C is made, grows, is read and
+//! written, and what a growth of it asks. `number` is set to the fuel needed where less is left.
 ghost use Rattle.std.specs.Prelude.{◌≡◌, ◌≤◌, ◌+◌, ◌/◌, ◌^◌, ◌⊎◌, false, Some, OnErr, IfOk, length};
 ghost use Rattle.wasmi_meter.specs.Capped.{quota_rules};
 ghost use Rattle.wasmi_meter.specs.Limiter.{optional_rules};
@@ -87,8 +87,7 @@ pub fn make_zeroed(memory: &mut MemoryNumbers, region: &[u8], quota: &mut QuotaN
     }
 }
 
-/// Makes a memory of this type under a limiter in zeros, as [`wasmi_region::memory::make_zeroed`]
-/// does.
+/// Makes a memory of this type under a limiter in zeros, as [`wasmi_region::memory::make_zeroed`].
 pub fn make_zeroed_under<L: ResourceLimiter>(
     ty: MemoryType,
     region: &[u8],

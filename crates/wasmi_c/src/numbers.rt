@@ -1,5 +1,4 @@
-//! The plain numbers of memories, tables, meters, quotas and ranges that lie with C. They may be
-//! any.
+//! The plain numbers of memories, tables, meters, quotas and ranges that lie with C: any numbers.
 ghost use Rattle.std.specs.Prelude.{◌≡◌, IsFalse, MatchOption, OnSome, Some};
 ghost use Rattle.wasmi_store.specs.Memory.{MemoryTypeValue, IsValid, named_type};
 ghost use Rattle.wasmi_store.specs.Table.{TableTypeValue};

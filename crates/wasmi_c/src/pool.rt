@@ -1,5 +1,6 @@
 //! A pool of machines under common caps that C holds by a handle, or none. A call works on the pool
-//! where it is. `include/wasmi_machine.h` says which statuses calls return, in which order.
+//! where it is; loads, sizes and fuel are replies of a tenant's machine alone.
+//! `include/wasmi_machine.h` says which statuses calls return, in which order.
 ghost use Rattle.std.specs.Prelude.{◌≡◌, ◌-◌, ◌≤◌, ◌<◌, Err, IfErr, IfOk, Ok, Some, None, is_some, MatchOption};
 ghost use Rattle.wasmi_budget.specs.Pool.{tenant_rules};
 ghost use Rattle.wasmi_budget.specs.declared.tenant.Tenant.{Tenant};
@@ -144,8 +145,7 @@ impl TenantPool {
         let _ = self.pool.len();
     }
 
-    /// Adds a machine with nothing on it, whose meter is that of the limits. Their caps aren't
-    /// read.
+    /// Adds a machine with nothing on it and the meter of the limits, whose caps aren't read.
     pub fn add(&mut self, alloc: Global, limits: &Limits) -> ReplyStruct
         ensures step { AddsNewTenant limits.now result self.old self.new }
         ensures caps { self.new.caps ≡ self.old.caps }
@@ -351,8 +351,7 @@ impl TenantPool {
         self.load_searched(tenant, number, memory, ptr, offset, value)
     }
 
-    /// `load` where a search finds the tenant. It is apart, so that `load` keeps no registers for the
-    /// search.
+    /// `load` where a search finds the tenant: apart, so that `load` keeps no registers for it.
     #[cold]
     #[inline(never)]
     fn load_searched(
@@ -428,8 +427,7 @@ impl TenantPool {
         self.store_searched(tenant, number, memory, ptr, offset, value)
     }
 
-    /// `store` where a search finds the tenant. It is apart, so that `store` keeps no registers for the
-    /// search.
+    /// `store` where a search finds the tenant: apart, so that `store` keeps no registers for it.
     #[cold]
     #[inline(never)]
     fn store_searched(
@@ -689,8 +687,7 @@ impl TenantPool {
         }
     }
 
-    /// Runs lines of calls on the machine of a tenant, and writes their replies to the front of a
-    /// text.
+    /// Runs lines of calls on a tenant's machine, and writes their replies to the front of a text.
     #[tactic(auto, unfolding(crate::specs::Pool::RunsTenantLines))]
     pub fn run_lines(
         &mut self,
@@ -751,8 +748,7 @@ fn load_item(machine: &Machine, op: LoadOp, memory: usize, ptr: u64, offset: u64
     }
 }
 
-/// The reply of a tenant's machine to the question for the fuel that is left, which reaches no
-/// limiter.
+/// The reply of a tenant's machine to the question for the fuel left, which reaches no limiter.
 #[inline(always)]
 fn fuel_reply(machine: &Machine) -> Reply
     ensures { (tenant : Tenant) → RepliesWith (optional_rules tenant_rules) GetFuel

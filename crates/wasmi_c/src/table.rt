@@ -1,5 +1,6 @@
 //! How a table whose elements are the first of a region of references that lies with C is made,
-//! grows, is read and is written. `number` is set to the fuel that is needed where less is left.
+//! grows, is read and is written, and what a growth of it asks. `number` is set to the fuel that is
+//! needed where less is left.
 ghost use Rattle.std.specs.Prelude.{◌≡◌, ◌≤◌, ◌+◌, ◌⊎◌, false, None, Some, OnErr, IfOk, length};
 ghost use Rattle.wasmi_meter.specs.Capped.{quota_rules};
 ghost use Rattle.wasmi_meter.specs.Limiter.{optional_rules};

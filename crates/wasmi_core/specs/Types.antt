@@ -1,34 +1,8 @@
 -- The types of the parts that clauses and specifications cite, passed on from one place. Declares nothing.
-pub use Rattle.wasmi_types.specs.declared.index_ty.IndexType.{IndexType}
-pub use Rattle.wasmi_types.specs.declared.trap.TrapCode.{TrapCode}
-pub use Rattle.wasmi_types.specs.declared.value.RefType.{RefType}
-pub use Rattle.wasmi_types.specs.declared.value.ValType.{ValType}
+pub use Rattle.wasmi_types.specs.declared.{index_ty.IndexType.IndexType, trap.TrapCode.TrapCode, value.RefType.RefType, value.ValType.ValType}
 pub use Rattle.wasmi_raw.specs.declared.raw.RawVal.{RawVal}
-pub use Rattle.wasmi_typed.specs.declared.typed.TypedRawVal.{TypedRawVal}
-pub use Rattle.wasmi_typed.specs.declared.typed_ref.TypedRawRef.{TypedRawRef}
-pub use Rattle.wasmi_typed.specs.declared.global.Mutability.{Mutability}
-pub use Rattle.wasmi_typed.specs.declared.global.GlobalError.{GlobalError}
-pub use Rattle.wasmi_meter.specs.declared.error.LimiterError.{LimiterError}
-pub use Rattle.wasmi_meter.specs.declared.error.MemoryError.{MemoryError}
-pub use Rattle.wasmi_meter.specs.declared.error.TableError.{TableError}
-pub use Rattle.wasmi_meter.specs.declared.fuel.FuelError.{FuelError}
-pub use Rattle.wasmi_meter.specs.declared.fuel.CustomFuelCosts.{CustomFuelCosts}
-pub use Rattle.wasmi_meter.specs.declared.limiter.Kind.{Kind}
-pub use Rattle.wasmi_meter.specs.declared.quota.Quota.{Quota}
+pub use Rattle.wasmi_typed.specs.declared.{typed.TypedRawVal.TypedRawVal, typed_ref.TypedRawRef.TypedRawRef, global.Mutability.Mutability, global.GlobalError.GlobalError}
+pub use Rattle.wasmi_meter.specs.declared.{error.LimiterError.LimiterError, error.MemoryError.MemoryError, error.TableError.TableError, fuel.FuelError.FuelError, fuel.CustomFuelCosts.CustomFuelCosts, limiter.Kind.Kind, quota.Quota.Quota}
 pub use Rattle.wasmi_store.specs.declared.table.element.SegmentError.{SegmentError}
-pub use Rattle.wasmi_ops.specs.declared.load_store.LoadOp.{LoadOp}
-pub use Rattle.wasmi_ops.specs.declared.load_store.StoreOp.{StoreOp}
-pub use Rattle.wasmi_ops.specs.declared.vector.BinaryOp.{BinaryOp}
-pub use Rattle.wasmi_ops.specs.declared.vector.UnaryOp.{UnaryOp}
-pub use Rattle.wasmi_ops.specs.declared.vector.TernaryOp.{TernaryOp}
-pub use Rattle.wasmi_ops.specs.declared.vector.ShiftOp.{ShiftOp}
-pub use Rattle.wasmi_ops.specs.declared.vector.TestOp.{TestOp}
-pub use Rattle.wasmi_ops.specs.declared.vector.MakeOp.{MakeOp}
-pub use Rattle.wasmi_ops.specs.declared.vector.ExtractOp.{ExtractOp}
-pub use Rattle.wasmi_ops.specs.declared.vector.ReplaceOp.{ReplaceOp}
-pub use Rattle.wasmi_ops.specs.declared.vector.VectorLoadOp.{VectorLoadOp}
-pub use Rattle.wasmi_ops.specs.declared.vector.LoadLaneOp.{LoadLaneOp}
-pub use Rattle.wasmi_ops.specs.declared.vector.StoreLaneOp.{StoreLaneOp}
-pub use Rattle.wasmi_machine.specs.declared.calls.Call.{Call}
-pub use Rattle.wasmi_machine.specs.declared.calls.Reply.{Reply}
-pub use Rattle.wasmi_machine.specs.declared.slots.Slot.{Slot}
+pub use Rattle.wasmi_ops.specs.declared.{load_store.LoadOp.LoadOp, load_store.StoreOp.StoreOp, vector.BinaryOp.BinaryOp, vector.UnaryOp.UnaryOp, vector.TernaryOp.TernaryOp, vector.ShiftOp.ShiftOp, vector.TestOp.TestOp, vector.MakeOp.MakeOp, vector.ExtractOp.ExtractOp, vector.ReplaceOp.ReplaceOp, vector.VectorLoadOp.VectorLoadOp, vector.LoadLaneOp.LoadLaneOp, vector.StoreLaneOp.StoreLaneOp}
+pub use Rattle.wasmi_machine.specs.declared.{calls.Call.Call, calls.Reply.Reply, slots.Slot.Slot}

@@ -6,9 +6,8 @@ use Rattle.std.proofs.Math.Nat.{mul-le-mul_left}
 use Rattle.std.proofs.lemmas.Bool.Decides.{nat_tests}
 use Rattle.std.proofs.lemmas.List.Elements.{All-nil, All-cons}
 use Rattle.std.proofs.lemmas.List.Sums.{sum_by-append, sum_by-le-sum_by}
-use Rattle.wasmi_meter.specs.declared.fuel.FuelError.{FuelError}
+use Rattle.wasmi_meter.specs.declared.{fuel.FuelError.FuelError, error.MemoryError.MemoryError}
 use Rattle.wasmi_meter.specs.declared.fuel.FuelError.TheVariants.{FuelMeteringDisabled, OutOfFuel}
-use Rattle.wasmi_meter.specs.declared.error.MemoryError.{MemoryError}
 use Rattle.wasmi_meter.specs.Limiter.{Rules}
 use Rattle.wasmi_meter.specs.Meter.{Meter, amount_left, ConsumesFuel}
 use Rattle.wasmi_raw.specs.RawVal.{raw_of}
@@ -19,13 +18,10 @@ use Rattle.wasmi_core.specs.Account.{SetsNoFuel, charges, has_written, bytes_wri
 use Rattle.wasmi_core.specs.State.{State, World, Turn, world}
 use Rattle.wasmi_core.specs.Steps.{Step, Run, AreTurns}
 use Rattle.wasmi_core.specs.Laws.{RunsJoin, ChargesAreSpent, FuelBoundsWriting}
-use Rattle.wasmi_example_callers.specs.declared.interpreter.Instruction.{Instruction}
+use Rattle.wasmi_example_callers.specs.declared.{interpreter.Instruction.Instruction, interpreter.Action.Action, interpreter.Ending.Ending, interpreter.Outcome.Outcome}
 use Rattle.wasmi_example_callers.specs.declared.interpreter.Instruction.TheVariants.{Constant}
-use Rattle.wasmi_example_callers.specs.declared.interpreter.Action.{Action}
 use Rattle.wasmi_example_callers.specs.declared.interpreter.Action.TheVariants.{Calls, Grows, Continues, Branches}
-use Rattle.wasmi_example_callers.specs.declared.interpreter.Ending.{Ending}
 use Rattle.wasmi_example_callers.specs.declared.interpreter.Ending.TheVariants as ending
-use Rattle.wasmi_example_callers.specs.declared.interpreter.Outcome.{Outcome}
 use Rattle.wasmi_example_callers.specs.Interpreter.{action_of, action_at, grow_result, place_after, CarriesOut, is_out_of_fuel, fuel_taken, Stops, StepsAt, Reaches, ExecutesProgram, HasRun, last_instruction, instructions_of, PaysProgramFuel}
 
 -- the state with so much fuel left

@@ -2,14 +2,13 @@
 -- which permits memories up to a number of bytes.
 use Rattle.std.specs.Prelude.{◌≡◌, ℕ, List, Some, Bool, false, nat_le, Ok, ◌+◌, map}
 use Rattle.wasmi_meter.specs.declared.limiter.Kind.TheVariants.{Bytes, Elements}
-use Rattle.wasmi_meter.specs.declared.quota.Quota.{Quota}
+use Rattle.wasmi_meter.specs.declared.{quota.Quota.Quota, limiter.Kind.Kind}
 use Rattle.wasmi_meter.specs.Limiter.{optional_rules, Rules}
 use Rattle.wasmi_meter.specs.Meter.{Meter, amount_left}
 use Rattle.wasmi_meter.specs.Capped.{cap_of, quota_rules}
 use Rattle.wasmi_core.specs.Types.{Call, Reply}
 use Rattle.wasmi_core.specs.State.{State, new_state, world, World, Turn}
 use Rattle.wasmi_core.specs.Steps.{IsRunOf, Run}
-use Rattle.wasmi_meter.specs.declared.limiter.Kind.{Kind}
 use Rattle.wasmi_example_callers.specs.declared.limiter.AtMost.{AtMost}
 use Rattle.wasmi_core.specs.Account.{charges}
 

@@ -18,13 +18,10 @@ use Rattle.wasmi_ops.specs.declared.load_store.StoreOp.TheVariants.{Store64}
 use Rattle.wasmi_core.specs.State.{State, live_at, World, Turn, world}
 use Rattle.wasmi_core.specs.Steps.{Run, IsRunOf, AreTurns}
 use Rattle.wasmi_core.specs.Account.{IsSpent}
-use Rattle.wasmi_example_callers.specs.declared.interpreter.Instruction.{Instruction}
+use Rattle.wasmi_example_callers.specs.declared.{interpreter.Instruction.Instruction, interpreter.Action.Action, interpreter.Ending.Ending, interpreter.Outcome.Outcome}
 use Rattle.wasmi_example_callers.specs.declared.interpreter.Instruction.TheVariants.{Constant, Copy, Add, Multiply, AddBytes, Load, Store, Grow, Size, Branch, BranchIf, Return}
-use Rattle.wasmi_example_callers.specs.declared.interpreter.Action.{Action}
 use Rattle.wasmi_example_callers.specs.declared.interpreter.Action.TheVariants.{Calls, Grows, Continues, Branches, Returns}
-use Rattle.wasmi_example_callers.specs.declared.interpreter.Ending.{Ending}
 use Rattle.wasmi_example_callers.specs.declared.interpreter.Ending.TheVariants.{Returned, Refused, Undefined, OutOfFuel}
-use Rattle.wasmi_example_callers.specs.declared.interpreter.Outcome.{Outcome}
 
 -- what is made of the value of one register, if it is there
 abbrev pub of_register : {A : Type 0} → State → ℕ → (RawVal → A) → Option A

@@ -29,8 +29,8 @@ fn bill(rt: &impl Print, machine: &mut Machine, calls: &[Call]) -> io::Result<()
     let before = left(machine);
     let replies = run_lending(machine, calls, &mut NoLimits)?;
     let after = left(machine);
-    println!(rt; "replies: {replies:?}")?;
-    println!(rt; "charged {}, left {after}", before.saturating_sub(after))
+    let charged = before.saturating_sub(after);
+    println!(rt; "replies: {replies:?}\ncharged {charged}, left {after}")
 }
 
 /// What is left, or 0 if metering is off.

@@ -23,15 +23,15 @@ pub fn grow(
 
 /// Grows a memory of bytes by more than the quota has left, then by less.
 pub fn main(rt: HostRuntime) -> anyhow::Result<()> {
-    let mut quota = Quota::new(100, 0);
-    let mut fuel = Fuel::new(false, FuelCostsProvider::default());
     let mut builder = MemoryType::builder();
     builder.min(60).page_size_log2(0);
-    let mut memory = Memory::new_lending(rt.alloc(), builder.build()?, &mut quota)?;
-    for pages in [41, 40] {
-        println!(rt; "{:?}", grow(&mut memory, pages, &mut fuel, &mut quota))?;
-    }
-    let bytes = memory.data().len();
-    println!(rt; "{bytes} bytes, held {}", quota.held_bytes())?;
+    let ty = builder.build()?;
+    let mut quota = Quota::new(100, 0);
+    let mut memory = Memory::new_lending(rt.alloc(), ty, &mut quota)?;
+    let mut fuel = Fuel::new(false, FuelCostsProvider::default());
+    let denied = grow(&mut memory, 41, &mut fuel, &mut quota);
+    let grown = grow(&mut memory, 40, &mut fuel, &mut quota);
+    let (bytes, held) = (memory.data().len(), quota.held_bytes());
+    println!(rt; "{denied:?}\n{grown:?}\n{bytes} bytes, held {held}")?;
     Ok(())
 }

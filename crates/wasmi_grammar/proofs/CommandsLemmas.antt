@@ -2,24 +2,12 @@
 -- command is refused.
 use Rattle.std.proofs.Common.{ℕ, ◌≡◌, ◌∙◌, List, [], ◌∷◌, Result, Err, bytes_eq, cond, codes, length}
 use Rattle.std.specs.Bool.{⊤}
-use Rattle.wasmi_types.specs.declared.value.RefType.{RefType}
+use Rattle.wasmi_types.specs.declared.{value.RefType.RefType, value.ValType.ValType}
 use Rattle.wasmi_grammar.proofs.Common.{MemoryTypeValue, Call, LineError, Accepts, LineWords, WritesNumber, word_at, reference_word, command_word, WritesOperands, NamesAfter, refused_through}
 use Rattle.wasmi_store.specs.Table.{TableTypeValue}
-use Rattle.wasmi_typed.specs.declared.typed_ref.TypedRawRef.{TypedRawRef}
-use Rattle.wasmi_types.specs.declared.value.ValType.{ValType}
-use Rattle.wasmi_typed.specs.declared.global.Mutability.{Mutability}
+use Rattle.wasmi_typed.specs.declared.{typed_ref.TypedRawRef.TypedRawRef, global.Mutability.Mutability}
 use Rattle.wasmi_raw.specs.declared.raw.RawVal.{RawVal}
-use Rattle.wasmi_ops.specs.declared.load_store.LoadOp.{LoadOp}
-use Rattle.wasmi_ops.specs.declared.load_store.StoreOp.{StoreOp}
-use Rattle.wasmi_ops.specs.declared.vector.VectorLoadOp.{VectorLoadOp}
-use Rattle.wasmi_ops.specs.declared.vector.LoadLaneOp.{LoadLaneOp}
-use Rattle.wasmi_ops.specs.declared.vector.StoreLaneOp.{StoreLaneOp}
-use Rattle.wasmi_ops.specs.declared.vector.BinaryOp.{BinaryOp}
-use Rattle.wasmi_ops.specs.declared.vector.MakeOp.{MakeOp}
-use Rattle.wasmi_ops.specs.declared.vector.ShiftOp.{ShiftOp}
-use Rattle.wasmi_ops.specs.declared.vector.TernaryOp.{TernaryOp}
-use Rattle.wasmi_ops.specs.declared.vector.TestOp.{TestOp}
-use Rattle.wasmi_ops.specs.declared.vector.UnaryOp.{UnaryOp}
+use Rattle.wasmi_ops.specs.declared.{load_store.LoadOp.LoadOp, load_store.StoreOp.StoreOp, vector.VectorLoadOp.VectorLoadOp, vector.LoadLaneOp.LoadLaneOp, vector.StoreLaneOp.StoreLaneOp, vector.BinaryOp.BinaryOp, vector.MakeOp.MakeOp, vector.ShiftOp.ShiftOp, vector.TernaryOp.TernaryOp, vector.TestOp.TestOp, vector.UnaryOp.UnaryOp}
 use Rattle.wasmi_machine.specs.declared.calls.Call.TheVariants as call
 
 -- a form: the type of the values that operands write, and how they write them

@@ -17,9 +17,6 @@ pub use Rattle.wasmi_grammar.specs.Headers.{NamesLimiterAfter, WritesMeter, Writ
 pub use Rattle.wasmi_grammar.specs.Lines.{NamesLine, AddsLine, AddsWords, AcceptsLine, AcceptsLines, AreTaken, calls_of, IsBadLine, IsFirstBadLine, HasNoCommands, IsNewScript}
 unfoldable pub use Rattle.wasmi_grammar.specs.Lines.{lines_in}
 pub use Rattle.wasmi_grammar.specs.Parts.{TenantRun, PartsValue, parts_in, calls_in, part_at, Follow, AreCut}
-pub use Rattle.wasmi_grammar.specs.declared.header.LimiterLine.{LimiterLine}
+pub use Rattle.wasmi_grammar.specs.declared.{header.LimiterLine.LimiterLine, header.RegionLine.RegionLine, script.Line.Line, script.Script.Script}
 pub use Rattle.wasmi_grammar.specs.declared.header.LimiterLine.TheVariants.{Quota, Tenants, Answers}
-pub use Rattle.wasmi_grammar.specs.declared.header.RegionLine.{RegionLine}
-pub use Rattle.wasmi_grammar.specs.declared.script.Line.{Line}
 pub use Rattle.wasmi_grammar.specs.declared.script.Line.TheVariants.{Meter, Limiter, Region, Reserve, As}
-pub use Rattle.wasmi_grammar.specs.declared.script.Script.{Script}

@@ -34,7 +34,7 @@ after_word word =
 abbrev IsWritten : LineWords → List ℕ → Type 0
 IsWritten words word = (a : (after_word word).0) × (after_word word).1 words a
 
--- the words of a line after the first word of a command write what that word says: the operands of its call
+-- the words of a line after its first word, where that is a command's, write what it says: the operands of its call
 command_written : (words : LineWords) (call : Call) → WritesOperands words call → IsWritten words (command_word call)
 command_written words GetFuel w = (GetFuel, w)
 command_written words call w = (call, w)
@@ -96,7 +96,7 @@ pub without_numbers : {X : Type 0} (n : ℕ) (xs : List X) → map (λ p. p.1) (
 without_numbers n [] = refl
 without_numbers n (x ∷ xs) = ap (λ ys. x ∷ ys) (without_numbers (n + 1) xs)
 
--- the lines before a numbered one, this one and the later ones
+-- the lines of a script before a numbered one, this one and the later ones
 pub lines_at : (lines : List (List ℕ)) (n : ℕ) (before : List (ℕ × List ℕ)) (here : ℕ × List ℕ)
     → before ≡ take n (enumerate_from 0 lines)
     → (n < length (enumerate_from 0 lines)) × (here ≡ get_or (enumerate_from 0 lines) n here)

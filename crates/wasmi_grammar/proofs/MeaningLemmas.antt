@@ -25,8 +25,7 @@ use Rattle.wasmi_ops.specs.LaneOps.{extract_name, extract_op, replace_name, repl
 use Rattle.wasmi_machine.specs.declared.slots.SlotCounts.{SlotCounts}
 use Rattle.wasmi_machine.specs.declared.calls.Call.TheVariants as call
 use Rattle.wasmi_grammar.specs.declared.script.Line.TheVariants.{Call as Command}
-use Rattle.wasmi_grammar.specs.declared.header.Header.{Header}
-use Rattle.wasmi_grammar.specs.declared.header.MeterLine.{MeterLine}
+use Rattle.wasmi_grammar.specs.declared.{header.Header.Header, header.MeterLine.MeterLine}
 use Rattle.wasmi_grammar.specs.declared.header.MeterLine.TheVariants.{Off, On}
 use Rattle.wasmi_grammar.specs.Meanings.{CallMeaning, WriteMeaning, SegmentMeaning, DataMeaning, OtherCall as Other, call_meaning, LimiterMeaning, AnswersMeaning, OtherLimiter, limiter_meaning, PartMeaning, part_meaning}
 use Rattle.wasmi_grammar.proofs.LimitWordsLemmas.{memory_named, memory_is, table_named, table_is}

@@ -124,7 +124,7 @@ module _ (old old' : Script) (same : LinesHaveSameMeaning old old') where
   line_too line new (utf8, words, same, inr (told, names, adds)) =
       let after = takes_too told told refl new adds in (after.0, (utf8, words, same, inr (told, names, after.1)))
 
--- words add nothing to a script if one line that they say can't be added: all lines that words say have one meaning
+-- a script takes no words of which one line can't be added: all lines that words say have one meaning
 pub no_words : (old : Script) (words : LineWords) (line : Line) → 1 ≤ length words
     → NamesLine (word_at words 0) (drop 1 words) line → ((new : Script) → ¬ (AddsLine old line new))
     → (new : Script) → ¬ (AddsWords old words new)

@@ -75,14 +75,14 @@ span_within from (here ∷ later) to zero span (start, onward, rest) is =
 span_within from (here ∷ later) to (suc index) span (start, onward, rest) is =
     span_within here.end later to index span rest is
 
--- an item of a list, with one behind it
+-- an item of a list, as the part of an index, with one behind it
 found_before : {A : Type 0} (items : List A) (last : A) (index : ℕ) (item : A) → slice_get items index ≡ Some item
     → slice_get (items ++ last ∷ []) index ≡ Some item
 found_before [] last index item is = absurd cc
 found_before (x ∷ items) last zero item is = is
 found_before (x ∷ items) last (suc index) item is = found_before items last index item is
 
--- the last item of a list
+-- the last item of a list, as the part of an index
 found_last : {A : Type 0} (items : List A) (last : A) → slice_get (items ++ last ∷ []) (length items) ≡ Some last
 found_last [] last = refl
 found_last (x ∷ items) last = found_last items last

@@ -31,8 +31,7 @@ pub record WritesLimits (minimum maximum width : List ℕ) (limits : Limits) : T
 abbrev pub memory_limits : MemoryTypeValue → Limits
 memory_limits ty = record { index = ty.index; minimum = ty.minimum; maximum = ty.maximum }
 
--- four words name this memory type, which there is: its minimum, its maximum, its page size and the width of its
--- addresses
+-- four words name this memory type, which there is: its minimum, its maximum, its page size, its addresses' width
 pub record NamesType (minimum maximum log2 width : List ℕ) (ty : MemoryTypeValue) : Type 0 where
   pub limits_words : WritesLimits minimum maximum width (memory_limits ty)
   pub log2_word : WritesNumber 8 log2 (page_log2 ty.page)
@@ -42,8 +41,7 @@ pub record NamesType (minimum maximum log2 width : List ℕ) (ty : MemoryTypeVal
 abbrev pub table_limits : TableTypeValue → Limits
 table_limits ty = record { index = ty.index; minimum = ty.minimum; maximum = ty.maximum }
 
--- four words name this table type, which there is: the type of its elements, its minimum, its maximum and the width of
--- its indices
+-- four words name this table type, which there is: its element type, its minimum, its maximum, its indices' width
 pub record NamesTableType (element minimum maximum width : List ℕ) (ty : TableTypeValue) : Type 0 where
   pub element_text : element ≡ reference_word ty.element
   pub limits_words : WritesLimits minimum maximum width (table_limits ty)

@@ -5,12 +5,9 @@ use Rattle.std.specs.Option.{option_map, option_map_or}
 use Rattle.wasmi_meter.specs.Meter.{default_costs, Meter}
 use Rattle.wasmi_machine.specs.State.{State, new_state, no_slots}
 use Rattle.wasmi_machine.specs.declared.slots.SlotCounts.{SlotCounts}
-use Rattle.wasmi_grammar.specs.declared.header.Header.{Header}
-use Rattle.wasmi_grammar.specs.declared.header.MeterLine.{MeterLine}
+use Rattle.wasmi_grammar.specs.declared.{header.Header.Header, header.MeterLine.MeterLine, header.LimiterLine.LimiterLine, header.RegionLine.RegionLine}
 use Rattle.wasmi_grammar.specs.declared.header.MeterLine.TheVariants.{Off, On}
-use Rattle.wasmi_grammar.specs.declared.header.LimiterLine.{LimiterLine}
 use Rattle.wasmi_grammar.specs.declared.header.LimiterLine.TheVariants.{Quota, Answers, Tenants}
-use Rattle.wasmi_grammar.specs.declared.header.RegionLine.{RegionLine}
 use Rattle.wasmi_operands.specs.LineWords.{LineWords, WritesEach, word_at, WritesNumber}
 use Rattle.wasmi_operands.specs.Names.{WritesAnswer}
 

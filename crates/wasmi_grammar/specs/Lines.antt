@@ -4,15 +4,12 @@ use Rattle.std.specs.Prelude.{◌≡◌, ◌<◌, ℕ, ◌⊎◌, List, [], ◌�
 use Rattle.std.specs.List.{slice_split}
 use Rattle.std.specs.Str.{IsUtf8}
 use Rattle.wasmi_machine.specs.declared.calls.Call.{Call}
-use Rattle.wasmi_grammar.specs.declared.header.Header.{Header}
-use Rattle.wasmi_grammar.specs.declared.script.Line.{Line}
+use Rattle.wasmi_grammar.specs.declared.{header.Header.Header, script.Line.Line, script.Script.Script, error.ParseError.ParseError}
 use Rattle.wasmi_grammar.specs.declared.script.Line.TheVariants.{Meter, Limiter, Region, Reserve, As, Call as Command}
-use Rattle.wasmi_grammar.specs.declared.script.Script.{Script}
 use Rattle.wasmi_operands.specs.LineWords.{LineWords, word_at, words_in}
 use Rattle.wasmi_grammar.specs.Parts.{parts_in, calls_in}
 use Rattle.wasmi_grammar.specs.Commands.{NamesAfter}
 use Rattle.wasmi_grammar.specs.Headers.{WritesMeter, NamesLimiterAfter, WritesRegion, WritesReserve, WritesTenant, AreApart, tenants_of}
-use Rattle.wasmi_grammar.specs.declared.error.ParseError.{ParseError}
 use Rattle.wasmi_grammar.specs.declared.error.ParseError.TheVariants.{BadCommand, OutOfMemory}
 
 -- the first word of a line and the words after it say this

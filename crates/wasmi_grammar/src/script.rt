@@ -315,8 +315,7 @@ fn line_of(alloc: Global, name: &str, operands: &[&str]) -> Result<Line, LineErr
 ///
 /// # Errors
 ///
-/// `BadCommand` with the first line that is no command; `OutOfMemory` if memory for the script is
-/// refused.
+/// `BadCommand` with the first line that is no command; `OutOfMemory` if memory is refused.
 pub fn parse(alloc: Global, bytes: &[u8]) -> Result<Script, ParseError>
     ensures script { IfOk result (WritesScript bytes.now) }
     ensures calls { IfOk result (λ script. length (calls_of script) ≤ length bytes.now + 1) }

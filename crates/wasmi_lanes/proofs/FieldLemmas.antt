@@ -1,5 +1,6 @@
--- The bits of a word that belong to one lane (`field`), as those of the operands give them; where lanes of one width
--- begin and end in a word, from its lowest bits on, and words that have the same lanes.
+-- The bits of a word that belong to one lane (`field`), as those of the operands give them, also where nothing is
+-- carried or borrowed from below; where lanes of one width begin and end in a word, from its lowest bits on, and words
+-- that have the same lanes.
 use Rattle.std.proofs.Common.{◌≡◌, ℕ, zero, suc, ◌+◌, ◌-◌, ◌*◌, ◌/◌, ◌%◌, ◌^◌, ◌<◌, ◌≤◌, sym, ap, ◌∙◌, arith, zero-mul, suc-mul, mul-zero, add_comm, le_refl, div-one, mod-lt, bit_and, bit_or, bit_xor, one-add}
 use Rattle.wasmi_lanes.proofs.Common.{bit_at, zero-div, zero-mod, add-mod, add-mod_right, add-mul-mod_self_right, mod-add-mod, mod-mod, pow_pos, pow-add, mul-le, shr-shr, and_mask, div-add-mod', div-mul-add, mod-mul-add, and_shr, and_mod, or_shr, or_mod, xor_shr, xor_mod, field_of, shr_below, field}
 use Rattle.std.proofs.Math.Pow.{ones_split, shr_mono, mod-mod-pow}
@@ -55,7 +56,7 @@ shr_sub k a b le low =
     let parts : a - b ≡ c * p + (a % p - b % p) = omega (arith, div-add-mod' a p, div-add-mod' b p) in
     rw (parts, div-mul-add c p (a % p - b % p) (omega (arith, mod-lt a (pow_pos k)))) (omega (arith, high))
 
--- where c + b is a, c modulo q is the difference of a modulo q and b modulo q, wrapped
+-- for a field of a difference: where c + b is a, c modulo q is the difference of a modulo q and b modulo q, wrapped
 wrap_sub : (q a b c : ℕ) → 0 < q → c + b ≡ a → c % q ≡ (a % q + (q - b % q)) % q
 wrap_sub q a b c pos e =
     let whole : a + (q - b % q) ≡ c + (b / q + 1) * q = omega (arith, mod-lt b pos, div-add-mod' b q) in
@@ -83,7 +84,7 @@ complement j k v fits =
     ap (λ n. n * 2 ^ k) (omega (arith, shr_below v j k fits)) in
     omega (arith, ones_split j k, rows, div-add-mod' v (2 ^ k), mod-lt v (pow_pos k))
 
--- the upper j bits of the complement of j + k bits are the complement of the upper j bits
+-- for a field of a complement: the upper j bits of the complement of j + k bits are the complement of the upper j bits
 complement_shr : (j k v : ℕ) → v < 2 ^ (j + k) → (2 ^ (j + k) - 1 - v) / 2 ^ k ≡ 2 ^ j - 1 - v / 2 ^ k
 complement_shr j k v fits = rw (complement j k v fits) (div-mul-add _ (2 ^ k) _ (omega (arith, pow_pos k)))
 
@@ -137,7 +138,7 @@ pub top_of_lane : (k h v : ℕ) → bit_at (field k (suc h) v) h ≡ bit_at v (k
 unfolding field
 top_of_lane k h v = rw (← one-add h, field_of (v / 2 ^ k) 1 h, mod-mod (v / 2 ^ k / 2 ^ h) 2, shr-shr v k h)
 
--- a lane of a word that was shifted to the right by s, where only the bits of that lane are kept
+-- a field of a word that was shifted to the right by s, where only the bits of that field are kept
 pub lane_shr : (w s r k v mask : ℕ) → r + s ≡ w → field k w mask ≡ 2 ^ r - 1
     → field k w (bit_and (v / 2 ^ s) mask) ≡ field k w v / 2 ^ s
 unfolding field

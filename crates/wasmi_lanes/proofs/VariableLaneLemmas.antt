@@ -54,7 +54,7 @@ taken_out (suc n) (x ∷ xs) v a are =
 
 -- ---- bytes by indices below 16
 
--- two tables of n entries that were computed to be the same have the same entry at each index
+-- two tables of indices, of n entries that were computed to be the same, have the same entry at each index
 pub computed : {X : Type 0} (f g : ℕ → X) (n k : ℕ) (d : X) → map f (range_with_len 0 n) ≡ map g (range_with_len 0 n)
     → k < n → f k ≡ g k
 computed f g n k d same below = rw (← get_or-map-range_with_len f 0 n k k d below (zero-add k), same)

@@ -125,7 +125,7 @@ module _ (w : Width) (i : ℕ) (inside : i < 128 / bits w) where
   unfolding binary_of_lanes
   lane_of_binary read row a b = lane_of_from (λ i. row (read (lane w a i)) (read (lane w b i)))
 
-  -- all ones and all zeros are within the width
+  -- all ones and all zeros, of which a vector of lanes is made, are within the width
   choice_fits : (t : Bool) → (if t then 2 ^ bits w - 1 else 0) % 2 ^ bits w ≡ (if t then 2 ^ bits w - 1 else 0)
   choice_fits true = mod-eq_of_lt (omega (arith, pow_pos (bits w)))
   choice_fits false = mod-eq_of_lt (pow_pos (bits w))
@@ -144,7 +144,7 @@ module _ (w : Width) (i : ℕ) (inside : i < 128 / bits w) where
   unfolding splat_of
   lane_of_splat n fits = lane_of_from (λ _. n) ∙ mod-eq_of_lt fits
 
-  -- n or a lane, as a test decides, is within the width
+  -- in a vector that is made of lanes, n or a lane, as a test decides, is within the width
   replaced_fits : (v n : ℕ) (t : Bool) → n < 2 ^ bits w
       → (if t then n else lane w v i) % 2 ^ bits w ≡ (if t then n else lane w v i)
   replaced_fits v n true fits = mod-eq_of_lt fits
@@ -157,6 +157,3 @@ module _ (w : Width) (i : ℕ) (inside : i < 128 / bits w) where
   lane_of_with_lane v k n fits = lane_of_from (λ i. if i == k then n else lane w v i) ∙ replaced_fits v n (i == k) fits
 
 pub ruleset made = (lane_of_from, lane_of_splat, lane_of_with_lane)
-
--- the lanes of the vector of a row, where a count of lanes fills the vector
-pub ruleset rows = (lanes_of_width, lane_of_unary, lane_of_binary, lane_of_comparison)

@@ -102,7 +102,7 @@ sub_lane tops k (suc h) a b fits fits_b lane =
     rw (difference_at tops k (suc h) (2 ^ h) fits lane.starts lane.within (top_is tops k h lane) a b fits_b, beside_top h)
     (lane_sub h _ _ (field_lt k (suc h) a) (field_lt k (suc h) b))
 
--- at a lane of tops, the marks of the lanes in which a and b differ have its top where these differ, else 0
+-- at a lane of tops, the inequality of two words has its top where the lanes of a and b differ, else 0
 pub differ_lane : (tops k w a b : ℕ) → tops < 2 ^ 64 → IsLane tops k w →
     field k w (bit_and
     (bit_or ((bit_and (bit_xor a b) (2 ^ 64 - 1 - tops) + (2 ^ 64 - 1 - tops)) % 2 ^ 64) (bit_xor a b)) tops)

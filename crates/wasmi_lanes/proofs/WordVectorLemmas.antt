@@ -26,12 +26,12 @@ pub record MakeVector (low high r : ℕ) : Type 0 where
   pub high_fits : high < 2 ^ 64
   pub is : r ≡ vector_of low high
 
--- a fact of each lane of w bits of a word, by where it begins
+-- a fact of each lane of w bits of one of a vector's two words, by where it begins
 abbrev pub EachLane : Width → (ℕ → Type 0) → Type 0
 EachLane w P = (i : ℕ) → i < lanes_in_word w → P (bits w * i)
 
 module _ (w : Width) (whole : lanes_in_word w * bits w ≡ 64) where
-  -- a lane of a word ends within its 64 bits
+  -- a lane of one of a vector's two words ends within its 64 bits
   pub lane_within : (i : ℕ) → i < lanes_in_word w → bits w * i + bits w ≤ 64
   lane_within i inside = omega (arith, whole, lane_ends (bits w) (lanes_in_word w) i inside)
 
@@ -174,7 +174,7 @@ inner_lanes w inner whole is i inside =
 
 -- ---- words whose lanes are a row of the operands' lanes make the vector of that row, which may name the width
 
--- in each lane r is the row of a and b
+-- in each lane of one of a vector's two words r is the row of a and b
 abbrev pub BinaryInLanes : (ℕ → ℕ → Type 0) → (ℕ → ℕ → ℕ → ℕ) → ℕ → ℕ → ℕ → Type 0
 BinaryInLanes Lane row r a b =
     (start width : ℕ) → Lane start width → field start width r ≡ row width (field start width a) (field start width b)

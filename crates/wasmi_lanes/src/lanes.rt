@@ -110,7 +110,7 @@ pub struct LaneArray<T, const N: usize> {
     pub(crate) items: [T; N],
 }
 
-// All ones where `holds`, else all zeros.
+// The item of a comparison of lanes: all ones where the test holds, else all zeros.
 #[inline(always)]
 fn ones_if<T: LaneInteger>(holds: bool) -> T
     ensures { result ≡ (if holds then T.ALL_ONES else T.ALL_ZEROS) }
@@ -360,8 +360,7 @@ where
     }
 }
 
-/// Lanes that are made of narrower ones, of which there are twice as many. Upstream:
-/// `simd::FromNarrow`.
+/// Lanes made of narrower ones, of which there are twice as many. Upstream: `simd::FromNarrow`.
 pub trait FromNarrow<S: FromWide<Self>>: Lanes {
     /// Lane i is made of the narrow lanes 2i and 2i + 1.
     fn pairwise_unary<F: Fn(S::Item, S::Item) -> Self::Item>(narrow: S, f: F) -> Self

@@ -15,8 +15,7 @@ pub fn lanes_there_and_back<L: Lanes>(lanes: L) -> L
     L::from_v128(lanes.into_v128())
 }
 
-/// Lane i of a vector that is made of lanes is the number of lane i, wrapped to the width of the
-/// lanes.
+/// Lane i of a vector made of lanes is the number of lane i, wrapped to the width of the lanes.
 #[tactic(auto, using(crate::proofs::VectorLemmas::made))]
 pub fn lanes_of_made_vector()
     ensures made { (w : Width) (f : ℕ → ℕ) (i : ℕ) → i < 128 / bits w
@@ -29,7 +28,6 @@ pub fn lanes_of_made_vector()
 
 /// Lane i of a vector that a row of lanes names is the row of the operands' lanes i, wrapped to the
 /// width of the lanes; `read` is how the operands' lanes are read.
-#[tactic(auto, using(crate::proofs::VectorLemmas::rows))]
 pub fn lanes_of_rows<L: Lanes>()
     ensures unary { (read : ℕ → L.Item) (row : L.Item → ℕ) (a i : ℕ) → i < L.LANES
         → lane L.Item.width (unary_of_lanes L.Item.width read row a) i

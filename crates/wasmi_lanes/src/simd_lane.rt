@@ -32,8 +32,7 @@ pub trait SimdLane: LaneInteger {
             → lane Self.width result i ≡ at items i }
         ensures in_range { result < 2 ^ 128 };
 
-    /// The lanes moved by half of their range, so that as unsigned numbers they stand in the order
-    /// of the signed ones.
+    /// The lanes moved by half their range: unsigned, they stand in the order of the signed ones.
     fn biased(items: Self::Vector) -> Self::Vector
         ensures lanes { (i : ℕ) → i < lane_count Self.width
             → at result i ≡ (at items i + 2 ^ (bits Self.width - 1)) % 2 ^ bits Self.width };
@@ -212,8 +211,7 @@ pub fn from_u64x2(words: u64x2) -> V128
 //
 // An array of the lanes would go through memory (docs/SPEED.md): the bytes of a lane are picked by
 // their indices, and a lane is put where the number of a lane is the index. What is made of the
-// index comes from tables, since what a general register makes has to go from there to a vector
-// register.
+// index comes from tables, since what a general register makes has to go to a vector register.
 
 /// An unsigned integer as which one lane of a vector is taken out or put in, at an index that is
 /// known only when the program runs. Core specification: `extract_lane`, `replace_lane`.

@@ -203,7 +203,7 @@ module _ {a b r : ℕ} (fits_a : a < 2 ^ 64) (fits_b : b < 2 ^ 64) (differs : Di
       rw (differs (1 * i) 1 (bit_lane i inside), eq-eqb _ _ (ap (field (1 * i) 1) same))
       (sym (field_of_zero (1 * i) 1))))))
 
--- the choice between a number and 0, inverted within the number
+-- the choice between a number and 0, as by whether two words are equal, inverted within the number
 pub turned : (n : ℕ) (t : Bool) → n - cond t n 0 ≡ cond (not t) n 0
 turned n true = omega arith
 turned n false = omega arith

@@ -42,11 +42,11 @@ module _ (w : Width) (x y : ℕ) (fits_x : x < 2 ^ bits w) where
 module _ (w : Width) (xs ys : List ℕ) (long_x : length xs ≡ lane_count w) (long_y : length ys ≡ lane_count w) (a b : ℕ)
     {r : ℕ} (below : r < 2 ^ 128) (is_x : (i : ℕ) → i < lane_count w → get_or xs i 0 ≡ lane w a i)
     (is_y : (i : ℕ) → i < lane_count w → get_or ys i 0 ≡ lane w b i) where
-  -- the first list is the lanes of a
+  -- the first list of the clamped sums is the lanes of a
   of_x : AreItems (lane_count w) 0 (lane w a) xs
   of_x = record { long = long_x; are = is_x }
 
-  -- the second list is those of b
+  -- the second list of the clamped sums is the lanes of b
   of_y : AreItems (lane_count w) 0 (lane w b) ys
   of_y = record { long = long_y; are = is_y }
 
@@ -76,7 +76,7 @@ module _ (w : Width) (xs ys : List ℕ) (long_x : length xs ≡ lane_count w) (l
 
 -- ---- a product of two lanes, at 32 bits
 
--- a signed number of w bits is at most half of their range away from 0
+-- each factor of a rounded product, a signed number of w bits, is at most half of their range away from 0
 pub abs_at_most : {w : Width} (z : ℤ) → FitsSigned w z → unsigned_abs z ≤ 2 ^ hbits w
 abs_at_most (pos n) fits = let below = fits.sfits in omega arith
 abs_at_most (negsuc n) fits = let below = fits.sfits in omega arith

@@ -8,7 +8,8 @@ use Rattle.wasmi_raw.specs.RawVal.{vector_of}
 
 -- ---- products
 
--- a field of u * c is the field of u times c, wrapped, where the bits below, times c, stay below
+-- of the product of a word: a field of u * c is the field of u times c, wrapped, where the bits below, times c, stay
+-- below
 field_mul : (k w u c : ℕ) → (u % 2 ^ k) * c < 2 ^ k → field k w (u * c) ≡ (field k w u * c) % 2 ^ w
 unfolding field
 field_mul k w u c low =

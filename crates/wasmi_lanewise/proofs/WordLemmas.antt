@@ -18,7 +18,7 @@ inverted_word_pair fits is of_i = u64x2_of (omega (arith, is, of_i.low_is)) (ome
 
 -- ---- a lane and all ones, inverted: the lane negated
 
--- an inner lane ends within the word
+-- an inner lane, as one that is negated, ends within the word
 within_word : (tops k w : ℕ) → InnerLane tops k w → k + w ≤ 64
 within_word tops k w (inl lane) = lane.within
 within_word tops k w (inr lane) = omega (arith, lane.whole)

@@ -12,8 +12,7 @@ use std::simd::prelude::*;
 use wasmi_lanes::{WordLane, from_u64x2, u64x2_of};
 use wasmi_raw::V128;
 
-/// The lanes shifted to the left, the bits above each lane dropped. `amount` is taken modulo their
-/// width.
+/// The lanes shifted left, the bits above each lane dropped. `amount` is taken modulo their width.
 #[inline(always)]
 pub fn shifted_left<T: NarrowLane>(v: V128, amount: u32) -> V128
     ensures { result ≡ vector.shl T.width v amount }

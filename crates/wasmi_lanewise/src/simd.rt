@@ -293,8 +293,7 @@ pub fn i16x8_sub_sat_u(lhs: V128, rhs: V128) -> V128
     u16::vector_of(u16::lanes_of(lhs).saturating_sub(u16::lanes_of(rhs)))
 }
 
-/// The products of the lanes as q15 numbers (signed, over 2 to the power 15), rounded and clamped
-/// to the signed range.
+/// The lanes' products as q15 numbers (signed, over 2^15), rounded and clamped to the signed range.
 ///
 /// Twice the upper half of a product and its rounded lower half: each half is one instruction.
 pub fn i16x8_q15mulr_sat_s(lhs: V128, rhs: V128) -> V128

@@ -10,13 +10,10 @@ use Rattle.wasmi_c.specs.Machine.Calls.{ActsOnHeld, ListsAreRuns, RepliesInStruc
 use Rattle.wasmi_c.specs.Machine.Replies.{only}
 use Rattle.wasmi_c.specs.Pool.{TenantReplies, TenantRepliesToStruct}
 use Rattle.wasmi_c.specs.declared.status.TheConstants.{DONE, NO_MACHINE, NO_POOL, NOT_HELD}
-use Rattle.wasmi_c.specs.declared.machine.call_struct.CallStruct.{CallStruct}
-use Rattle.wasmi_c.specs.declared.machine.reply_struct.ReplyStruct.{ReplyStruct}
+use Rattle.wasmi_c.specs.declared.{machine.call_struct.CallStruct.CallStruct, machine.reply_struct.ReplyStruct.ReplyStruct, numbers.MemoryNumbers.MemoryNumbers, numbers.QuotaNumbers.QuotaNumbers}
 use Rattle.wasmi_meter.proofs.CappedLemmas.{nothing_within}
 use Rattle.wasmi_c.specs.MemoryCalls.{EndsMemory}
-use Rattle.wasmi_c.specs.declared.numbers.MemoryNumbers.{MemoryNumbers}
 use Rattle.wasmi_meter.specs.declared.quota.Holdings.{Holdings}
-use Rattle.wasmi_c.specs.declared.numbers.QuotaNumbers.{QuotaNumbers}
 use Rattle.wasmi_c.proofs.SharedQuotaLemmas.{limiter_on}
 
 -- numbers that stand for a call are replied to as it is

@@ -3,8 +3,7 @@
 use Rattle.std.proofs.Common.{Bool, Err, IsOk, List, Ok, OnOk, Result, Some, [], ap, refl, sym, ℕ, ◌++◌, ◌∙◌, ◌∷◌, ◌≡◌, ◌≢◌, ⊎_elim, arith, if◌then◌else◌, slice_get}
 use Rattle.wasmi_law_tests.proofs.Common.{append-nil, same_Some, max, nat_eq, TableValue, optional_rules, Reply, Done, NoRoom, NoSuch, AcceptsNotices, IsDeterministic, RepliesAreOne, State, live_at, IsReservedFor, IsReservedTable, ReservedRunsSucceed, RunsAlone}
 use Rattle.std.proofs.lemmas.Bool.{eq-eqb, ne_eqb}
-use Rattle.wasmi_machine.specs.declared.calls.Call.{Call}
-use Rattle.wasmi_machine.specs.declared.slots.Slot.{Slot}
+use Rattle.wasmi_machine.specs.declared.{calls.Call.Call, slots.Slot.Slot}
 use Rattle.wasmi_machine.specs.declared.slots.Slot.TheVariants.{Live}
 use Rattle.wasmi_machine.specs.Effects.{OnLive}
 use Rattle.wasmi_machine.specs.TableEffects.{ReservesElementsAt}

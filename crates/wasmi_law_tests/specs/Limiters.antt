@@ -5,9 +5,8 @@ use Rattle.wasmi_meter.specs.declared.limiter.Kind.{Kind}
 use Rattle.std.specs.Vec.{vec_capacity}
 use Rattle.wasmi_meter.specs.Limiter.{Question, Answer, kind_of, Rules}
 use Rattle.wasmi_machine.specs.Exchange.{NothingGrows}
-use Rattle.wasmi_law_tests.specs.declared.recorder.Event.{Event}
+use Rattle.wasmi_law_tests.specs.declared.{recorder.Event.Event, recorder.Recorder.Recorder}
 use Rattle.wasmi_law_tests.specs.declared.recorder.Event.TheVariants.{Permitted, Failed}
-use Rattle.wasmi_law_tests.specs.declared.recorder.Recorder.{Recorder}
 
 -- the event that a permitted question leaves in a trace
 abbrev pub event_of : Question → Event

@@ -7,9 +7,8 @@ use Rattle.wasmi_meter.specs.Meter.{Meter}
 use Rattle.wasmi_store.specs.Buffer.{Lent, fits_room}
 use Rattle.wasmi_store.specs.Growth.{IsDenied}
 use Rattle.wasmi_store.specs.Memory.{MemoryValue, pages_of, growth_of, MemoryTypeValue, minimum_bytes, page_bytes, in_bounds}
-use Rattle.wasmi_machine.specs.declared.calls.Call.{Call}
+use Rattle.wasmi_machine.specs.declared.{calls.Call.Call, calls.Reply.Reply}
 use Rattle.wasmi_machine.specs.declared.calls.Call.TheVariants.{GrowMemory}
-use Rattle.wasmi_machine.specs.declared.calls.Reply.{Reply}
 use Rattle.wasmi_machine.specs.declared.calls.Reply.TheVariants.{Number}
 use Rattle.wasmi_machine.specs.State.{World, Turn, world, State, live_at, IsValid}
 use Rattle.wasmi_machine.specs.Exchange.{Exchanges}
@@ -19,11 +18,10 @@ use Rattle.wasmi_machine.specs.Account.{opened, account_after, Balances, IsBound
 use Rattle.wasmi_machine.specs.Determinism.{IsNotOutOfMemory}
 use Rattle.wasmi_machine.specs.Laws.{IsRefusal, Keeps, KeepsMeter}
 use Rattle.wasmi_machine.specs.LentMemory.{FitsRegions}
-use Rattle.wasmi_meter.specs.declared.quota.Quota.{Quota}
+use Rattle.wasmi_meter.specs.declared.{quota.Quota.Quota, quota.Amounts.Amounts}
 use Rattle.wasmi_laws.specs.Runs.{IsRunInTwo, IsWithinCapsOf, world_with_more}
-use Rattle.wasmi_meter.specs.declared.quota.Amounts.{Amounts}
 use Rattle.wasmi_budget.specs.declared.tenant.Tenant.{Tenant}
-use Rattle.wasmi_budget.specs.Pool.{tenant_rules, without_others, PoolValue, IsWithinCaps, machine_of, tenant_at}
+use Rattle.wasmi_budget.specs.Pool.{tenant_rules, without_others, PoolValue, IsWithinCaps, machine_of, pool_of, tenant_at}
 use Rattle.wasmi_budget.specs.Laws.{PoolTurn, Ran, PoolRun}
 use Rattle.wasmi_c.specs.Machine.Caps.{MachineValue}
 use Rattle.wasmi_c.specs.Machine.Calls.{MachineRuns}
@@ -48,8 +46,7 @@ IsBilled rules calls w replies w' =
     RunsBy rules (λ turns. (left : ℕ) → w.state.meter.left ≡ Some left
     → Balances (account_after (opened left) turns) w'.state.meter) calls w replies w'
 
--- Where metering was on at a rate above 0, what a run was charged and what was left before bound the bytes that it has
--- written.
+-- Where metering was on at a rate above 0, the charges of a run and what was left before bound what it has written.
 abbrev pub IsBoundedBy : {S : Type 0} → Rules S → List Call → World S → List Reply → World S → Type 0
 IsBoundedBy rules calls w replies w' =
     RunsBy rules (λ turns. (left : ℕ) → w.state.meter.left ≡ Some left → 0 < w.state.meter.costs.bytes_copied_per_fuel
@@ -63,7 +60,7 @@ FitsAnyRegions call = (s : State) → FitsRegions s call
 abbrev pub IsRunOfBoth : {S : Type 0} → Rules S → List Call → List Call → World S → List Reply → List Reply → World S
     → Type 0
 IsRunOfBoth rules calls calls' w replies replies' w' =
-    (turns : List Turn) × (turns' : List Turn) × AreTurns calls replies turns × AreTurns calls' replies' turns'
+    (turns turns' : List Turn) × AreTurns calls replies turns × AreTurns calls' replies' turns'
     × Run rules w (turns ++ turns') w'
 
 -- The step by a call with this reply keeps the meter as a refused turn does.
@@ -100,15 +97,13 @@ IsGrownOrDenied rules k pages x w reply w' = ((reply ≡ Number (pages_of x))
     × (length x'.bytes ≡ length x.bytes + pages * page_bytes x.ty.page)))
     ⊎ (IsRefusal reply × IsDenied rules (growth_of x pages).question w.limiter w'.limiter)
 
--- where a turn grows a memory in a lent region that has place for it, the memory has grown, or the limiter has denied
--- the growth
+-- where a turn grows a memory in a lent region with place for it, it has grown, or the limiter has denied the growth
 abbrev pub GrowsInRegion : {S : Type 0} → Rules S → World S → Turn → World S → Type 0
 GrowsInRegion rules w turn w' = (k pages : ℕ) (x : MemoryValue) → turn.call ≡ GrowMemory k pages
     → live_at w.state.memories k ≡ Some x → CanGrowInRegion (Some w.state.meter) pages x
     → IsGrownOrDenied rules k pages x w turn.reply w'
 
--- in each turn that grows a memory in a lent region that has place for it, the memory has grown, or the limiter has
--- denied the growth
+-- in each turn that grows a memory in a lent region with place for it, it has grown, or the limiter has denied that
 abbrev pub GrowsInRegions : {S : Type 0} → Rules S → List Call → World S → List Reply → World S → Type 0
 GrowsInRegions rules calls w replies w' = RunsByTurns rules (GrowsInRegion rules) calls w replies w'
 
@@ -127,8 +122,7 @@ IsSpentBy rules calls w replies w' =
 abbrev pub StaysValid : {S : Type 0} → Rules S → List Call → World S → List Reply → World S → Type 0
 StaysValid rules calls w replies w' = RunsByTurns rules (λ v turn v'. IsValid v'.state) calls w replies w'
 
--- in each turn a permission is followed by exactly the growth that was asked for, or by just one notice, and a denial
--- by neither
+-- in each turn a permission is followed by just the growth that was asked for or one notice, and a denial by neither
 abbrev pub IsExchanged : {S : Type 0} → Rules S → List Call → World S → List Reply → World S → Type 0
 IsExchanged rules calls w replies w' = RunsByTurns rules (Exchanges rules) calls w replies w'
 
@@ -161,8 +155,7 @@ StaysVacant index pool =
 abbrev pub RunsAlone : PoolValue → ℕ → List Call → List Reply → PoolValue → Type 0
 RunsAlone pool index calls replies pool' =
     (s : State) × (s' : State) × (machine_of pool index ≡ Some s) × (machine_of pool' index ≡ Some s')
-    × PoolRun (record { caps = pool.caps; machines = Some s ∷ [] }) (Ran 0 calls replies ∷ [])
-    (record { caps = pool.caps; machines = Some s' ∷ [] })
+    × PoolRun (pool_of pool.caps (Some s ∷ [])) (Ran 0 calls replies ∷ []) (pool_of pool.caps (Some s' ∷ []))
 
 -- the machine of an index has run these calls under its limiter as if the others held nothing
 abbrev pub RunsBeside : PoolValue → ℕ → List Call → List Reply → Type 0

@@ -18,17 +18,14 @@ pub use Rattle.wasmi_machine.specs.State.{State, live_at, live_value, with_data_
 pub use Rattle.wasmi_machine.specs.Steps.{Run, BytesRead, BytesStored, BytesWritten, Change, Changed, DataDropped, DataMade, Effect, ElementSet, GlobalMade, GlobalSet, ItemsDropped, MemoryDropped, RegisterSet, SegmentMade, Step, TableDropped, HasChange, HasEffect, Told, effect_of, FuelSet, LentMemoryMade, MemoryGrown, MemoryMade, RangeWritten, TableGrown, TableMade, MemoryWritten, TableWritten, RepliesWith, IsRunOf, LacksSlot, Sequence}
 pub use Rattle.wasmi_machine.specs.TableEffects.{SetsElementAt, OfReference, OfSegment, OfTable, Source, write_of, ReservesElementsAt}
 pub use Rattle.wasmi_machine.specs.ValueEffects.{DropsDataAt, DropsItemsAt, SetsGlobalAt, CreatesSegment, IsSegmentOf}
-pub use Rattle.wasmi_machine.specs.declared.calls.Call.{Call}
+pub use Rattle.wasmi_machine.specs.declared.{calls.Call.Call, calls.Reply.Reply, slots.Slot.Slot}
 pub use Rattle.wasmi_machine.specs.declared.calls.Call.TheVariants.{SetFuel, GetFuel, Read, NewMemory, NewLentMemory, GrowMemory, NewTable, GrowTable, Extract, GetElement, GetGlobal, GetRegister, Load, NewData, NewGlobal, NewSegment, Test}
-pub use Rattle.wasmi_machine.specs.declared.calls.Reply.{Reply}
 pub use Rattle.wasmi_machine.specs.declared.calls.Reply.TheVariants.{Done, NoSuch, Trap, Memory}
-pub use Rattle.wasmi_machine.specs.declared.slots.Slot.{Slot}
 pub use Rattle.wasmi_machine.specs.declared.slots.Slot.TheVariants.{Gone, Live}
 pub use Rattle.wasmi_meter.specs.Attempt.{MeteredValue, with_value, AttemptOutcome, Met, answer_of, value_after, Failed, Follows, IsFirstCause, MayEnd, Request, covers, optional_due, outcome_charge, Attempt, Unasked, Denied, alone}
 pub use Rattle.wasmi_meter.specs.Limiter.{Rules, optional_rules, Failure, MemoryFailure, TableFailure, NoticeAnswer, Question}
 pub use Rattle.wasmi_meter.specs.Meter.{Meter, meter_set, amount_left, meter_after}
-pub use Rattle.wasmi_meter.specs.declared.error.MemoryError.{MemoryError}
-pub use Rattle.wasmi_meter.specs.declared.error.TableError.{TableError}
+pub use Rattle.wasmi_meter.specs.declared.{error.MemoryError.MemoryError, error.TableError.TableError}
 pub use Rattle.wasmi_raw.specs.declared.raw.RawVal.{RawVal}
 pub use Rattle.wasmi_store.proofs.GrowthLemmas.{on_test, on_test_too, grows_too}
 pub use Rattle.wasmi_store.proofs.MemoryLemmas.{memory_growth}
@@ -40,8 +37,7 @@ pub use Rattle.wasmi_store.specs.Table.{size_of, GrowsTableCharging, MakesTable,
 pub use Rattle.wasmi_store.specs.Write.{MeteredWrite, WritesCharging, copied, filled, EndsBy, write_charge, IsRefusedFor, write_due}
 pub use Rattle.wasmi_typed.specs.declared.typed_ref.TypedRawRef.{TypedRawRef}
 pub use Rattle.wasmi_types.specs.Access.{at, overwrite}
-pub use Rattle.wasmi_types.specs.declared.trap.TrapCode.{TrapCode}
-pub use Rattle.wasmi_types.specs.declared.value.RefType.{RefType}
+pub use Rattle.wasmi_types.specs.declared.{trap.TrapCode.TrapCode, value.RefType.RefType}
 pub use Rattle.wasmi_laws.specs.Places.{Content, DataAt, GlobalAt, IndependentTurnsSwap, IsIndependent, IsLocal, Location, MemoryAt, RegisterAt, SegmentAt, TableAt, changed_location, content_at, read_locations, DropsNot, HasAt, IndicesLast, IsLater, IsLaterSlot, IsLive, LeavesAlone, LiveUntilDropped, OthersStay, OthersStayInRuns, dropped_location, NumberStore, StoresAreReadBack, StoresKeepOtherBytes, load_of, store_call, stored_part, stored_size, MemoriesGrowAlike, TablesGrowAlike, MemoriesReadAlike, MemoriesWriteAlike}
 pub use Rattle.wasmi_laws.specs.Reserved.{IsLent, IsLentRoom, IsReservedToMaximum, HasElements, HasElementsAt, HasSlot, HasSlots, IsReservedFor, IsReservedTable, NeedsNoMemory, NeedsOnlySlot, ReservedCallsSucceed, ReservedRunsSucceed, SlotsSuffice, SlotKind, Memories, Segments, DataSegments, Globals, made_of, slots_for, takes_slot, IsInRegion}
 pub use Rattle.wasmi_laws.specs.Runs.{HasFuel, MoreFuelChangesNothing, NamesNoFuel, meter_with_more, world_with_more, IsPlainRefusal, OtherRefusalsChangeNothing, PlainRefusalsChangeNothing, PlainlyRefusedRunsChangeNothing, CapsHoldInRuns, IsWithinCapsOf, RunsOfCallsAreCut, SizesNeverShrink, TotalsNeverShrink, CostsAreKept, FuelNeverRises, SwitchIsKept}

@@ -104,7 +104,7 @@ record ListMoves {X : Type 0} (k : ℕ) (Effect : List X → Reply → List X �
   too : (ys : List X) → slice_get ys k ≡ slice_get xs k → Effect ys reply (put_in k put ys)
 
 module _ {X Y : Type 0} (k : ℕ) (look : Option Y → Option X) (back : X → Y) (Change : Reply → X → X → Type 0) where
-  -- a change of what is found at the index: of an item, or of a live value
+  -- an effect that goes by what is at an index: a change of what is found there, of an item or of a live value
   abbrev Found : List Y → Reply → List Y → Type 0
   Found xs r xs' = ChangesFound (look (slice_get xs k)) (λ x. slice_set xs k (back x)) xs r xs' (Change r)
 

@@ -1,16 +1,14 @@
--- What becomes of what is at each index of a machine, by each effect, in a turn and in a run: a memory keeps its type
--- and its lent region, a table its type and what is reserved. What a call may not change stays as it is, and what was
--- made stays at its index.
+-- In which list of a state each index lies, and what becomes of what is at it, by each effect, in a turn and in a run:
+-- it keeps its type and its reserved memory, the lent region that a memory is made in or the elements of a table, where
+-- no effect takes other memory. What a call may not change stays as it is, and what was made stays at its index.
 use Rattle.std.proofs.Common.{Err, List, None, Ok, Option, Result, Some, [], ap, ⊎_elim, arith, inl, inr, length, map, refl, subst, sym, ℕ, ◌*◌, ◌+◌, ◌≤◌, ◌∙◌, ◌∷◌, ◌≡◌, ◌⊎◌}
 use Rattle.wasmi_laws.proofs.Common.{MeteredValue, value_after, Grows, Growth, All-head, All-tail, none-some, same_Some, option_and_then, option_map, slice_get, on_live, on_live_too, source_writes, OnLive, reply_of, ByteSource, byte_write_of, SetsAt, MemoryPart, State, Turn, outcome_of, World, byte_count, live_value, with_data_segments, with_globals, with_memories, with_registers, with_segments, with_tables, BytesStored, BytesWritten, Change, Changed, DataDropped, DataMade, Effect, ElementSet, FuelSet, GlobalMade, GlobalSet, ItemsDropped, LentMemoryMade, MemoryDropped, MemoryGrown, MemoryMade, RangeWritten, RegisterSet, SegmentMade, Step, TableDropped, TableGrown, TableMade, MemoryWritten, TableWritten, HasChange, HasEffect, effect_of, OfReference, OfSegment, OfTable, Source, write_of, Call, SetFuel, Reply, Slot, Gone, Live, Content, DataAt, DropsNot, GlobalAt, HasAt, IndicesLast, IsLater, IsLaterSlot, IsLive, LeavesAlone, LiveUntilDropped, Location, MemoryAt, OthersStay, OthersStayInRuns, RegisterAt, SegmentAt, TableAt, changed_location, content_at, dropped_location, IsLent, IsLentRoom, IsReservedToMaximum, AttemptOutcome, Met, answer_of, Rules, Meter, meter_set, MemoryError, TableError, RawVal, on_test, Lent, Owned, Room, room_after, metered_value, GrowsMemoryCharging, MakesMemory, MemoryTypeValue, MemoryValue, MemoryWrite, WritesMemory, new_memory, page_bytes, copied, filled, GrowsTableCharging, MakesTable, SetsTable, TableValue, same_type, size_of, with_elements, TypedRawRef, overwrite, TrapCode, memory_growth, table_growth}
 use Rattle.wasmi_laws.proofs.ListLemmas.{EachAfter, entry_added, item_added, item_changed, put, slot_acted, slot_changed, slot_dropped, slot_made, slot_written, unchanged}
 use Rattle.wasmi_store.specs.Memory as memory
 use Rattle.wasmi_store.specs.Segment.{SegmentValue}
 use Rattle.wasmi_typed.specs.Global.{GlobalInstance, SetsGlobal}
-use Rattle.wasmi_typed.specs.declared.global.GlobalError.{GlobalError}
+use Rattle.wasmi_typed.specs.declared.{global.GlobalError.GlobalError, global.GlobalType.GlobalType, typed.TypedRawVal.TypedRawVal}
 use Rattle.wasmi_typed.specs.declared.global.GlobalError.TheVariants.{ImmutableWrite, TypeMismatch}
-use Rattle.wasmi_typed.specs.declared.global.GlobalType.{GlobalType}
-use Rattle.wasmi_typed.specs.declared.typed.TypedRawVal.{TypedRawVal}
 use Rattle.wasmi_machine.proofs.ValueEffectsLemmas.{var_const}
 use Rattle.wasmi_machine.specs.declared.calls.Reply.TheVariants as replied
 
@@ -49,7 +47,7 @@ range_stays source dst len = on_live_too (byte_write_of source dst len) _ _ _ _ 
     (λ write w x x' is. bytes_stay x (w.written x.bytes) x' (ap (λ (v : MemoryWrite). v.written) (sym (w.is x)) ∙ is))
     (source_writes source dst len)
 
--- what is left of a lent region is lent
+-- what is left of a lent region, as a memory keeps it, is lent
 rest_lent : (room : Room) (n : ℕ) → IsLentRoom room → IsLentRoom (room_after room n)
 rest_lent Owned n lent = lent
 rest_lent (Lent rest) n lent = lent
@@ -244,7 +242,7 @@ module _ (effect : Effect) (location : Location) where
   item_after x (Some y) (Some z) found (inr may) Holds own becomes =
       (z, refl, becomes z (subst (λ v. May (changed_in effect) (dropped_in effect) location v z) (same_Some y x found) may))
 
-  -- what is reserved at an index stays so, where nothing is made that takes memory
+  -- what is at an index keeps its lent region or what is reserved for it, where nothing is made that takes memory
   pub stays_reserved : (TakesMemory effect → ⊥) → (old new : Option (Content location))
       → (new ≡ old) ⊎ MayAt effect location old new → IsReservedIn location old → IsReservedIn location new
   stays_reserved none old new (inl same) holds = subst (IsReservedIn location) (sym same) holds

@@ -164,7 +164,7 @@ module _ (more : ℕ) where
   module _ {X E : Type 0} (refusal : E → Reply) (w : MeteredWrite X E)
       (unpaid : (n : ℕ) → HasFuel (refusal (w.unpaid n)) → ⊥) (x : X) (m : Meter) (result : Result (Unit {0}) E)
       (x' : X) (m' : Meter) (has : HasFuel (reply_of (λ _. replied.Done) refusal result)) where
-    -- the value and the meter before a write over a range
+    -- the value and the meter before a write over a range, without more fuel
     abbrev write_from : MeteredValue X (Unit {0})
     write_from = metered x (Some m)
 
@@ -241,7 +241,7 @@ module _ (more : ℕ) where
   change_richer change s reply s' changes =
       record { part = changes.part; effect = changes.effect; after = ap richer_state changes.after }
 
--- the effect doesn't set the fuel
+-- an effect that is the same with more fuel: it doesn't set the fuel
 abbrev KeepsFuel : Effect → Type 0
 KeepsFuel (FuelSet fuel) = ⊥
 KeepsFuel effect = Unit {0}

@@ -1,6 +1,6 @@
--- Refusals that change nothing: a plain refusal is found before the limiter is asked, since none of the later causes of
--- an attempt is one. The limiter, the meter and the spare region stay, also where a call that lets nothing grow is
--- refused.
+-- What holds of the later causes of an attempt, whatever fact it is. Refusals that change nothing: a plain refusal is
+-- found before the limiter is asked, since no later cause is one. The limiter, the meter and the spare region stay,
+-- also where a call that lets nothing grow is refused.
 use Rattle.std.proofs.Common.{◌≡◌, ◌∙◌, ℕ, Bool, Option, Some, None, Result, Ok, Err, List, [], ◌∷◌, length, map, inl, inr, refl, sym, ap, subst}
 use Rattle.wasmi_laws.proofs.Common.{lacks_owned, All-head, All-tail, none-some, if◌then◌else◌, RefType, MemoryError, TableError, Attempt, AttemptOutcome, Unasked, Denied, Met, Failed, IsFirstCause, MeteredValue, Request, alone, answer_of, covers, optional_due, with_value, Failure, MemoryFailure, TableFailure, NoticeAnswer, Rules, Meter, LacksMemory, Lent, Owned, Room, Grows, Growth, Makes, metered_value, GrowsMemoryCharging, MakesMemory, MemoryValue, new_memory, MemoryTypeValue, GrowsTableCharging, TableValue, new_table, TableTypeValue, same_type, on_test, Call, NewMemory, NewLentMemory, GrowMemory, NewTable, GrowTable, Reply, Slot, Live, IsOtherFailure, ActsAt, AddsEntry, Creates, reply_of, CreatesLent, spare_after, MemoryPart, State, live_at, memory_part, IsRefusal, Turn, World, Effect, LentMemoryMade, MemoryGrown, MemoryMade, RangeWritten, Step, TableGrown, TableMade, HasEffect, effect_of, Creation, on_live, range_holds, IsPlainRefusal, OtherRefusalsChangeNothing, PlainRefusalsChangeNothing, PlainlyRefusedRunsChangeNothing, memory_growth, table_growth, outcome_of}
 use Rattle.wasmi_meter.specs.declared.error.MemoryError.TheVariants as memory_error
@@ -74,7 +74,7 @@ module _ {V E : Type 0} (refusal : E → Reply) (e : Request V E) (loud : AllLou
       absurd (first_has (λ c. IsLoud (refusal c)) e loud s.meter e.late refl cause a.may_end.1 plain)
   attempt_unasked rules answer value met s s' charge outcome a plain = absurd (loud.refused plain)
 
--- the reply to a creation
+-- the reply to a creation, which is a plain refusal where its error is one
 adds_reply : {X A E : Type 0} (entry : X → A) (refusal : E → Reply) (result : Result X E) (list : List A)
     (reply : Reply) (list' : List A) → AddsEntry entry refusal result list reply list'
     → reply ≡ reply_of (λ _. replied.Made (length list)) refusal result

@@ -311,7 +311,7 @@ EffectHas s (TableMade ty init) = ⊥
 EffectHas s (TableGrown k n init) = (n ≡ 0) ⊎ HasElementsAt s.tables k n
 EffectHas s effect = Unit {0}
 
--- a fact, or one of a live value, is one or the other of it
+-- for what is reserved: a fact, or one of a live value, is one or the other of it
 none_or_live : {X P : Type 0} (Fact : X → Type 0) (o : Option X) → P ⊎ OnLive o (Unit {0}) Fact
     → OnLive o (Unit {0}) (λ x. P ⊎ Fact x)
 none_or_live Fact None has = tt
@@ -424,14 +424,14 @@ needs_later s s' lent full (GrowTable k n init) (inl none) = inl none
 needs_later s s' lent full (GrowTable k n init) (inr needs) = inr (full k needs)
 needs_later s s' lent full call needs = needs
 
--- the first index of a kind
+-- the first index of a kind that slots are reserved for
 abbrev first_of : SlotKind → Location
 first_of Memories = MemoryAt 0
 first_of Segments = SegmentAt 0
 first_of DataSegments = DataAt 0
 first_of Globals = GlobalAt 0
 
--- as many of a kind were made as there are of the kind of its first index
+-- as many of a kind that slots are reserved for were made as there are of the kind of its first index
 made_at : (s : State) (kind : SlotKind) → made_of s kind ≡ count_at (first_of kind) s
 made_at s Memories = refl
 made_at s kind = refl

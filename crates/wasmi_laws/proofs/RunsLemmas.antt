@@ -1,11 +1,11 @@
--- Runs of turns and of calls that are cut in two, and what runs keep: sizes and totals don't shrink, caps hold, and the
--- meter keeps its costs and its switch, and has no more fuel left than before, where no call sets it.
+-- Runs of turns and of calls that are cut in two, and what runs keep: sizes and totals don't shrink, a machine stays
+-- within the caps of its quota, and the meter keeps its costs and its switch, and has no more fuel left than before,
+-- where no call sets it.
 use Rattle.std.proofs.Common.{◌≡◌, ◌∙◌, ◌≤◌, ◌++◌, ℕ, suc, Some, List, [], ◌∷◌, length, map, take, drop, sum, refl, sym, ap, subst, arith, ◌-◌, Option, None, ⊎_elim}
 use Rattle.wasmi_laws.proofs.Common.{none-some, same_Some, take-map, drop-map, take_at, drop_at, take-append-drop, ◌≢◌, slice_get, is_some, Question, Rules, optional_rules, State, World, Turn, world, sizes, HoldsTotals, Step, Sequence, Run, runs_joined, CapsHoldInRuns, IsWithinCapsOf, RunsOfCallsAreCut, SizesNeverShrink, TotalsNeverShrink, CostsAreKept, FuelNeverRises, SwitchIsKept, All-head, All-tail, option_map, unwrap_or, Meter, amount_left, Call, SetFuel}
 use Rattle.std.proofs.lemmas.List.Sums.{sum_by-cons}
-use Rattle.wasmi_meter.specs.declared.limiter.Kind.{Kind}
+use Rattle.wasmi_meter.specs.declared.{limiter.Kind.Kind, quota.Quota.Quota}
 use Rattle.wasmi_meter.specs.declared.limiter.Kind.TheVariants.{Bytes, Elements}
-use Rattle.wasmi_meter.specs.declared.quota.Quota.{Quota}
 use Rattle.wasmi_meter.specs.Capped.{IsWithinCaps, SameCaps, holdings, quota_rules}
 use Rattle.wasmi_machine.specs.Laws.{HoldsTotalsAlways, QuotasStayWithin}
 use Rattle.wasmi_machine.specs.Exchange.{Exchange, Permission, Place, Nowhere, New, At, place_of, GrowsAsAsked, GrowsBy}

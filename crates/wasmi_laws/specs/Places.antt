@@ -5,27 +5,23 @@ use Rattle.std.specs.Prelude.{◌≡◌, ◌⊎◌, ◌*◌, ◌+◌, ◌%◌, �
 use Rattle.wasmi_raw.specs.declared.raw.RawVal.{RawVal}
 use Rattle.wasmi_raw.specs.RawVal.{raw_of}
 use Rattle.wasmi_access.specs.LoadStore.{IsSameOutside}
-use Rattle.wasmi_ops.specs.declared.load_store.LoadOp.{LoadOp}
-use Rattle.wasmi_ops.specs.declared.load_store.StoreOp.{StoreOp}
+use Rattle.wasmi_ops.specs.declared.{load_store.LoadOp.LoadOp, load_store.StoreOp.StoreOp}
 use Rattle.wasmi_typed.specs.Global.{GlobalInstance}
 use Rattle.wasmi_typed.specs.declared.global.Mutability.TheVariants.{Const}
 use Rattle.wasmi_meter.specs.Limiter.{Rules}
 use Rattle.wasmi_store.specs.Memory.{MemoryValue, GrowsMemory, WritesMemory}
 use Rattle.wasmi_store.specs.Segment.{SegmentValue}
 use Rattle.wasmi_store.specs.Table.{TableValue, GrowsTable}
-use Rattle.wasmi_machine.specs.declared.calls.Call.{Call}
-use Rattle.wasmi_machine.specs.declared.slots.Slot.{Slot}
+use Rattle.wasmi_machine.specs.declared.{calls.Call.Call, slots.Slot.Slot, calls.Reply.Reply}
 use Rattle.wasmi_machine.specs.declared.slots.Slot.TheVariants.{Live, Gone}
-use Rattle.wasmi_machine.specs.declared.calls.Reply.{Reply}
 use Rattle.wasmi_machine.specs.declared.calls.Reply.TheVariants.{Done, Value, Bytes, Memory, Number, Table}
 use Rattle.wasmi_machine.specs.State.{State, live_at, with_memories, with_tables, World, Turn, world}
 use Rattle.wasmi_machine.specs.Steps.{Step, RepliesWith, Run}
 use Rattle.wasmi_types.specs.Access.{at}
 use Rattle.wasmi_typed.specs.declared.typed_ref.TypedRawRef.{TypedRawRef}
 use Rattle.wasmi_meter.specs.Meter.{Meter}
-use Rattle.wasmi_meter.specs.declared.error.MemoryError.{MemoryError}
+use Rattle.wasmi_meter.specs.declared.{error.MemoryError.MemoryError, error.TableError.TableError}
 use Rattle.wasmi_meter.specs.declared.error.MemoryError.TheVariants.{OutOfBoundsAccess}
-use Rattle.wasmi_meter.specs.declared.error.TableError.{TableError}
 use Rattle.wasmi_store.specs.Growth.{metered_value}
 use Rattle.wasmi_machine.specs.declared.calls.Call.TheVariants.{GrowMemory, GrowTable, Read, Write}
 use Rattle.wasmi_machine.specs.Effects.{reply_of}
@@ -168,8 +164,7 @@ pub record IsIndependent (first second : Call) : Type 0 where
 abbrev pub StaysAt : Location → State → State → Type 0
 StaysAt location s s' = (x : Content location) → content_at location s ≡ Some x → content_at location s' ≡ Some x
 
--- what may become of a slot: a live value stays of its type or is dropped, and one that was dropped stays so, with its
--- size
+-- what may become of a slot: a live value stays of its type or is dropped, and a dropped one stays, with its size
 abbrev pub IsLaterSlot : {X T : Type 0} → (X → T) → Slot X → Slot X → Type 0
 IsLaterSlot type (Live x) (Live x') = type x' ≡ type x
 IsLaterSlot type (Live x) (Gone size) = Unit {0}
@@ -185,7 +180,7 @@ IsLater (DataAt k) x x' = (x' ≡ x) ⊎ (x' ≡ [])
 IsLater (GlobalAt k) x x' = (x'.ty ≡ x.ty) × (x.ty.mutability ≡ Const → x' ≡ x)
 IsLater (RegisterAt k) x x' = Unit {0}
 
--- a slot isn't dropped
+-- the slot at an index isn't dropped
 abbrev pub IsLiveSlot : {X : Type 0} → Slot X → Type 0
 IsLiveSlot (Live x) = Unit {0}
 IsLiveSlot (Gone size) = ⊥
@@ -268,8 +263,7 @@ module _ {S : Type 0} (rules : Rules S) where
       → All (DropsNot location) (map Turn.call turns) → HasAt location w.state (IsLive location)
       → HasAt location w'.state (IsLive location)
 
-  -- an accepted store to a memory is read back by the load of the same size, after whatever turns whose calls don't
-  -- change that memory
+  -- an accepted store is read back by the load of its size, after any turns whose calls don't change its memory
   abbrev pub StoresAreReadBack : Type 0
   StoresAreReadBack = (it : NumberStore) (t u v w : World S) (turns : List Turn) (reply : Reply)
       → RepliesWith rules (store_call it) t Done u → Run rules u turns v

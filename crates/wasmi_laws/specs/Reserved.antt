@@ -5,22 +5,19 @@ use Rattle.wasmi_store.specs.Buffer.{Room, Owned, Lent}
 use Rattle.wasmi_store.specs.Memory.{MemoryValue}
 use Rattle.wasmi_store.specs.Table.{TableValue, size_of}
 use Rattle.wasmi_meter.specs.Limiter.{Rules}
-use Rattle.wasmi_machine.specs.declared.calls.Call.{Call}
+use Rattle.wasmi_machine.specs.declared.{calls.Call.Call, calls.Reply.Reply, slots.Slot.Slot, slots.SlotCounts.SlotCounts}
 use Rattle.wasmi_machine.specs.declared.calls.Call.TheVariants.{NewMemory, NewLentMemory, GrowMemory, Read, NewTable, GrowTable, NewSegment, NewData, NewGlobal}
-use Rattle.wasmi_machine.specs.declared.calls.Reply.{Reply}
-use Rattle.wasmi_machine.specs.declared.slots.Slot.{Slot}
-use Rattle.wasmi_machine.specs.declared.slots.SlotCounts.{SlotCounts}
 use Rattle.wasmi_machine.specs.State.{State, live_at, with_reserved, World, Turn}
 use Rattle.wasmi_machine.specs.Effects.{OnLive}
 use Rattle.wasmi_machine.specs.Determinism.{IsNotOutOfMemory}
 use Rattle.wasmi_machine.specs.Steps.{Step, IsRunOf}
 
--- bytes grow in what is left of a lent region
+-- room is reserved: bytes grow in what is left of a lent region
 abbrev pub IsLentRoom : Room → Type 0
 IsLentRoom Owned = ⊥
 IsLentRoom (Lent rest) = Unit {0}
 
--- a memory lies in a lent region
+-- a memory lies in a lent region, which is reserved for it
 abbrev pub IsLent : MemoryValue → Type 0
 IsLent x = IsLentRoom x.room
 
@@ -96,8 +93,7 @@ NeedsOnlySlot s (NewSegment ty items) = items.items ≡ []
 NeedsOnlySlot s (NewData bytes) = bytes.items ≡ []
 NeedsOnlySlot s call = Unit {0}
 
--- whether a call takes a slot of a kind: it makes a memory in the spare region, an element segment, a data segment or a
--- global
+-- whether a call takes a slot of a kind: it makes a memory in the spare region, a segment of either kind or a global
 abbrev pub takes_slot : SlotKind → Call → Bool
 takes_slot Memories (NewLentMemory ty) = true
 takes_slot Segments (NewSegment ty items) = true

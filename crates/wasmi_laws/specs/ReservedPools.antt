@@ -1,11 +1,9 @@
 -- The calls and replies of all runs of a tenant of a pool, and tenants that have reserved what their calls need: no
 -- reply to them says out of memory.
 use Rattle.std.specs.Prelude.{◌≡◌, ◌++◌, ◌∷◌, ℕ, List, [], Some, All, nat_eq, if◌then◌else◌}
-use Rattle.wasmi_machine.specs.declared.calls.Call.{Call}
-use Rattle.wasmi_machine.specs.declared.calls.Reply.{Reply}
+use Rattle.wasmi_machine.specs.declared.{calls.Call.Call, calls.Reply.Reply, slots.SlotCounts.SlotCounts}
 use Rattle.wasmi_machine.specs.Determinism.{IsNotOutOfMemory}
 use Rattle.wasmi_machine.specs.State.{State}
-use Rattle.wasmi_machine.specs.declared.slots.SlotCounts.{SlotCounts}
 use Rattle.wasmi_laws.specs.Reserved.{FitsSlots, IsReservedFor}
 use Rattle.wasmi_budget.specs.Laws.{PoolTurn, Ran, Reserved, PoolRun}
 use Rattle.wasmi_budget.specs.Pool.{PoolValue, machine_of}

@@ -1,12 +1,10 @@
 -- Laws over turns and runs: runs that are cut in two, sizes and totals that never shrink, plain refusals that change
 -- nothing, the caps of a quota, what a run keeps of its meter, and the same run with more fuel.
 use Rattle.std.specs.Prelude.{◌≡◌, ◌≤◌, ◌++◌, ℕ, List, length, take, drop, map, Option, Some, slice_get, All, ◌+◌, is_some}
-use Rattle.wasmi_meter.specs.declared.limiter.Kind.{Kind}
+use Rattle.wasmi_meter.specs.declared.{limiter.Kind.Kind, quota.Quota.Quota, error.MemoryError.MemoryError, error.TableError.TableError}
 use Rattle.wasmi_meter.specs.Limiter.{Rules, optional_rules}
-use Rattle.wasmi_meter.specs.declared.quota.Quota.{Quota}
 use Rattle.wasmi_meter.specs.Capped.{IsWithinCaps, cap_of, holdings, quota_rules}
-use Rattle.wasmi_machine.specs.declared.calls.Call.{Call}
-use Rattle.wasmi_machine.specs.declared.calls.Reply.{Reply}
+use Rattle.wasmi_machine.specs.declared.{calls.Call.Call, calls.Reply.Reply}
 use Rattle.wasmi_machine.specs.State.{State, World, Turn, world, IsRefusal, sizes, total, HoldsTotals}
 use Rattle.wasmi_machine.specs.Steps.{Step, Sequence, Run, IsRunOf}
 use Rattle.wasmi_machine.specs.Exchange.{Nowhere, place_of}
@@ -16,9 +14,7 @@ use Rattle.wasmi_machine.specs.declared.calls.Call.TheVariants.{SetFuel, GetFuel
 use Rattle.wasmi_machine.specs.declared.calls.Reply.TheVariants.{Memory, Table}
 use Rattle.wasmi_machine.specs.Account.{SetsNoFuel}
 use Rattle.wasmi_machine.specs.Determinism.{AcceptsNotices}
-use Rattle.wasmi_meter.specs.declared.error.MemoryError.{MemoryError}
 use Rattle.wasmi_meter.specs.declared.error.MemoryError.TheVariants as memory
-use Rattle.wasmi_meter.specs.declared.error.TableError.{TableError}
 use Rattle.wasmi_meter.specs.declared.error.TableError.TheVariants as table
 use Rattle.wasmi_machine.specs.declared.calls.Reply.TheVariants as reply
 
@@ -91,9 +87,8 @@ module _ {S : Type 0} (rules : Rules S) where
 
   -- every size, of a memory in bytes or of a table in elements, stays at its index in a run and doesn't shrink
   abbrev pub SizesNeverShrink : Type 0
-  SizesNeverShrink = (w : World S) (turns : List Turn) (w' : World S) → Run rules w turns w'
-      → (kind : Kind) (k n : ℕ) → slice_get (sizes w.state kind) k ≡ Some n
-      → (n' : ℕ) × (slice_get (sizes w'.state kind) k ≡ Some n') × (n ≤ n')
+  SizesNeverShrink = (w : World S) (turns : List Turn) (w' : World S) → Run rules w turns w' → (kind : Kind) (k n : ℕ)
+      → slice_get (sizes w.state kind) k ≡ Some n → (n' : ℕ) × (slice_get (sizes w'.state kind) k ≡ Some n') × (n ≤ n')
 
   -- the totals of a machine don't shrink in a run
   abbrev pub TotalsNeverShrink : Type 0
@@ -105,8 +100,7 @@ module _ {S : Type 0} (rules : Rules S) where
   PlainRefusalsChangeNothing =
       (w : World S) (turn : Turn) (w' : World S) → Step rules w turn w' → IsPlainRefusal turn.reply → w' ≡ w
 
-  -- a refused turn of a call that makes nothing and lets nothing grow leaves the machine, its meter and the limiter as
-  -- they were
+  -- a refused turn of a call that makes nothing and grows nothing leaves the machine, its meter and the limiter
   abbrev pub OtherRefusalsChangeNothing : Type 0
   OtherRefusalsChangeNothing =
       (w : World S) (turn : Turn) (w' : World S) → Step rules w turn w' → place_of turn.call ≡ Nowhere
@@ -121,8 +115,7 @@ module _ {S : Type 0} (rules : Rules S) where
 abbrev pub IsWithinCapsOf : Quota → State → Type 0
 IsWithinCapsOf quota s = (kind : Kind) → total s kind ≤ cap_of quota kind
 
--- under a quota that holds what a machine has, and no more than its caps, the machine is within these caps after each
--- turn of a run
+-- under a quota that holds what a machine has, within its caps, the machine is within them after each turn of a run
 abbrev pub CapsHoldInRuns : Type 0
 CapsHoldInRuns = (s : State) (quota : Quota) → HoldsTotals (holdings quota) s → IsWithinCaps quota
     → (turns : List Turn) (w' : World (Option Quota)) → Run (optional_rules quota_rules) (world s (Some quota)) turns w'

@@ -1,4 +1,5 @@
--- What each turn takes of the meter, also by a growth or a write over a range, and that the account of a run balances.
+-- That what each turn is charged can be paid, and what it takes of the meter, whose costs stay, also by an attempt, a
+-- growth or a write over a range; and that the account of a run balances.
 use Rattle.std.proofs.Common.{Bool, List, None, Option, Result, Some, [], arith, false, inl, inr, refl, true, ℕ, ◌+◌, ◌-◌, ◌∷◌, ◌≡◌, ◌≤◌}
 use Rattle.std.proofs.Math.Dec.{leb-zero}
 use Rattle.wasmi_machine.proofs.Common.{and_parts, nat_tests, same_Some, option_map, if◌then◌else◌, is_none, nat_le, ◌&&◌, Account, Balances, ChangesMeter, account_after, charged_by, opened, ActsAt, reply_of, Run, Changed, Effect, FuelSet, MemoryGrown, RangeWritten, Step, TableGrown, HasEffect, effect_of, State, live_at, Turn, outcome_of, World, Grows, Growth, Call, SetFuel, Reply, Slot, Attempt, Request, Failed, AttemptOutcome, Met, MeteredValue, optional_due, covers, with_value, Rules, Meter, amount_left, meter_after, meter_set, PaysCharge, on_test, GrowsMemoryCharging, GrowsTableCharging, same_type, memory_growth, table_growth}

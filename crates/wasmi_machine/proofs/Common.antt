@@ -12,10 +12,7 @@ pub use Rattle.wasmi_meter.specs.Attempt.{Attempt, Denied, Request, Failed, Atte
 pub use Rattle.wasmi_meter.specs.Capped.{Capped, capped_rules, capped_quota, quota_rules, HoldsTheSame, Reserves, GivesBack, with_more, SameCaps, IsWithinCaps}
 pub use Rattle.wasmi_meter.specs.Limiter.{Rules, Answer, AskedIf, NoticedIf, IsDenial, MemoryFailure, TableFailure, optional_rules, unlimited_rules, Failure, NoticeAnswer, Question, kind_of, lent_limiter, KeepsLoan}
 pub use Rattle.wasmi_meter.specs.Meter.{Meter, amount_left, due, meter_after, meter_set, PaysCharge, copy_cost, cut_product}
-pub use Rattle.wasmi_meter.specs.declared.error.MemoryError.{MemoryError}
-pub use Rattle.wasmi_meter.specs.declared.error.TableError.{TableError}
-pub use Rattle.wasmi_meter.specs.declared.fuel.CustomFuelCosts.{CustomFuelCosts}
-pub use Rattle.wasmi_meter.specs.declared.limiter.Kind.{Kind}
+pub use Rattle.wasmi_meter.specs.declared.{error.MemoryError.MemoryError, error.TableError.TableError, fuel.CustomFuelCosts.CustomFuelCosts, limiter.Kind.Kind}
 pub use Rattle.wasmi_meter.specs.declared.limiter.Kind.TheVariants.{Bytes, Elements}
 pub use Rattle.wasmi_store.proofs.GrowthLemmas.{on_test, on_test_too, grows_too, loan_kept}
 pub use Rattle.wasmi_store.proofs.MemoryLemmas.{memory_growth}
@@ -38,9 +35,7 @@ pub use Rattle.wasmi_machine.specs.RegisterEffects.{StoresVectorAt, lane_loaded,
 pub use Rattle.wasmi_machine.specs.State.{State, live_at, Turn, TurnOutcome, outcome_of, World, MemoryPart, memory_part, slot_count, IsValidSlot, byte_count, sizes, world, HoldsTotals, live_value, IsValid, with_memories, with_tables, with_data_segments, with_globals, with_registers, with_segments, IsValidSegment, IsValidCall}
 pub use Rattle.wasmi_machine.specs.Steps.{Run, Changed, Effect, FuelSet, MemoryGrown, HasRangeWrite, RangeWrite, RangeWritten, Step, TableGrown, HasEffect, effect_of, BytesRead, LentMemoryMade, MemoryMade, TableMade, MemoryWritten, TableWritten, Told, Change, IsRunOf, BytesStored, BytesWritten, LacksSlot, MemoryDropped, RegisterSet, HasChange, RepliesWith, DataDropped, DataMade, ElementSet, GlobalMade, GlobalSet, ItemsDropped, SegmentMade, TableDropped, RepliesWithoutLimiter, SomeCopy, Sequence, is_charged}
 pub use Rattle.wasmi_machine.specs.TableEffects.{write_of, OfReference, OfSegment, OfTable, Source, ReservesElementsAt, SetsElementAt, element_bytes}
-pub use Rattle.wasmi_machine.specs.declared.calls.Call.{Call}
+pub use Rattle.wasmi_machine.specs.declared.{calls.Call.Call, calls.Reply.Reply, slots.Slot.Slot}
 pub use Rattle.wasmi_machine.specs.declared.calls.Call.TheVariants.{SetFuel, GrowMemory, GrowTable, NewLentMemory, NewMemory, NewTable, CopyMemory, Load, LoadLane, VectorLoad, Write}
-pub use Rattle.wasmi_machine.specs.declared.calls.Reply.{Reply}
 pub use Rattle.wasmi_machine.specs.declared.calls.Reply.TheVariants.{Memory, Table}
-pub use Rattle.wasmi_machine.specs.declared.slots.Slot.{Slot}
 pub use Rattle.wasmi_machine.specs.declared.slots.Slot.TheVariants.{Gone, Live}

@@ -1,5 +1,5 @@
--- Where the limiter is deterministic and there is enough memory, two attempts, effects, turns or runs of the same calls
--- are one; and which limiters are deterministic.
+-- Where the limiter is deterministic and told of no lack of memory, two attempts, effects, turns or runs of the same
+-- calls are one; and which limiters are deterministic.
 use Rattle.std.proofs.Common.{Bool, List, None, Ok, Option, Result, Some, [], ap, arith, false, inl, inr, map, refl, sym, true, ℕ, ◌∙◌, ◌∷◌, ◌≡◌}
 use Rattle.wasmi_machine.proofs.Common.{All-head, All-tail, none-some, same_Some, option_map, MatchBool, memory_growth, table_growth, IsNotOutOfMemory, AreNotOutOfMemory, IsDeterministic, IsOtherFailure, never_out_of_memory, spare_after, byte_write_of, ActsMetered, ActsMeteredUnasked, Asks, Changes, Creates, OnlyReplies, reply_of, Run, BytesRead, Changed, Effect, FuelSet, LentMemoryMade, MemoryGrown, MemoryMade, RangeWritten, TableGrown, TableMade, MemoryWritten, TableWritten, HasEffect, Told, effect_of, State, live_at, Turn, World, write_of, Reply, Slot, Attempt, Denied, Request, Failed, AttemptOutcome, Follows, IsFirstCause, MayEnd, Met, MeteredValue, Unasked, alone, optional_due, answer_of, covers, outcome_charge, value_after, Capped, capped_rules, capped_quota, quota_rules, Answer, AskedIf, NoticedIf, IsDenial, MemoryFailure, Rules, TableFailure, optional_rules, unlimited_rules, Meter, meter_after, MemoryError, TableError, LacksMemory, Lent, Owned, Room, Grows, Growth, Makes, metered_value, metered, GrowsMemoryCharging, MakesMemory, MemoryValue, new_memory, MemoryTypeValue, GrowsTableCharging, MakesTable, new_table, same_type, TurnOutcome, outcome_of, at}
 use Rattle.wasmi_machine.proofs.MemoryEffectsLemmas.{lacks_owned, read_same}
@@ -109,11 +109,11 @@ module _ {S : Type 0} {rules : Rules S} (once : IsDeterministic rules) where
       let same = attempts_same wants s s' s'' a.outcome b.outcome charge charge' a.attempt b.attempt in
       (a.answered ∙ ap (answer_of g.request g.size) same.0 ∙ sym b.answered, same.1, same.2)
 
--- what memory refuses, a limiter is told as lack of memory
+-- what memory refuses a creation of a memory, a limiter is told as lack of memory
 memory_wants : (room : Room) (cause : MemoryError) → LacksMemory room cause → IsOtherFailure (MemoryFailure cause) → ⊥
 memory_wants room cause lacks other = rw (lacks_owned room cause lacks) at other
 
--- what memory refuses a table, a limiter is told as lack of memory
+-- what memory refuses a creation of a table, a limiter is told as lack of memory
 table_wants : (cause : TableError) → cause ≡ TableError.OutOfSystemMemory → IsOtherFailure (TableFailure cause) → ⊥
 table_wants cause lacks other = rw lacks at other
 

@@ -1,5 +1,5 @@
--- What holds of an effect on slots or on a list, whatever they are of: a refusal leaves them, two effects of one call
--- are one, and sizes and validity are kept.
+-- What holds of an effect on slots, on a list or on a value, whatever they are of: a refusal leaves them, it ends in
+-- one way where there is enough memory, and sizes and validity are kept.
 use Rattle.std.proofs.Common.{Err, List, None, Ok, Option, Result, Some, ap, inl, inr, length, map, refl, subst, sym, ℕ, ◌∙◌, ◌≡◌, ◌⊎◌}
 use Rattle.wasmi_machine.proofs.Common.{All-get_or, All-push, All-set, get_or_from_slice_get, slice_get_within, All, slice_get, slice_set, IsNotOutOfMemory, ActsAt, AddsEntry, ChangesAt, ChangesFound, Creates, DropsAt, IfNoRoom, OnLive, reply_of, live_at, slot_count, IsValidSlot, Change, Reply, Slot, Gone, Live, AttemptOutcome, Met, MeteredValue, answer_of, value_after, with_value, Rules, Grows, Growth, Makes}
 use Rattle.wasmi_machine.proofs.SlotsLemmas.{live_slot, put_back}
@@ -18,7 +18,7 @@ pub on_live : {X C : Type 0} (o : Option X) (Missing : Type 0) (Fact : X → Typ
     → (Missing → C) → ((x : X) → o ≡ Some x → Fact x → C) → C
 on_live o Missing Fact h missing live = on_found o Missing Fact h (λ none. missing) live
 
--- two facts of one live value, or of none
+-- two facts of an effect on one live value, or on none
 pub both_live : {X : Type 0} (o : Option X) (Missing Missing' : Type 0) (Fact Fact' : X → Type 0)
     → OnLive o Missing Fact → OnLive o Missing' Fact' → OnLive o (Missing × Missing') (λ x. Fact x × Fact' x)
 both_live None Missing Missing' Fact Fact' h h' = (h, h')
@@ -64,7 +64,7 @@ acts_back k reply_to Acts back s s' reply charge refused acts = on_live (live_at
     (λ missing. rw missing.2)
     (λ x found a. a.4 ∙ put_back s.value k x a.1 found (back _ _ charge a.0 (rw a.3 at refused) a.2))
 
--- two facts of one live value, or of none, taken apart at once
+-- two facts of an effect on one live value, or on none, taken apart at once
 pub on_both : {X C : Type 0} (o : Option X) (Missing Missing' : Type 0) (Fact Fact' : X → Type 0)
     → OnLive o Missing Fact → OnLive o Missing' Fact' → (Missing → Missing' → C) → ((x : X) → Fact x → Fact' x → C) → C
 on_both None Missing Missing' Fact Fact' h h' missing live = missing h h'

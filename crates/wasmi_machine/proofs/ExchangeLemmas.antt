@@ -1,5 +1,5 @@
--- What passes between a machine and its limiter in each turn, what has grown by it, and what was charged for it: of an
--- attempt, a creation, a growth, and each effect.
+-- What passes between a machine and its limiter in each turn, the reply to it, what has grown by it, and what was
+-- charged for it: of an attempt, a creation, a growth, and each effect.
 use Rattle.std.proofs.Common.{Bool, List, None, Option, Result, Some, ap, arith, false, inl, inr, length, map, refl, sym, true, ℕ, ◌*◌, ◌+◌, ◌-◌, ◌∙◌, ◌≡◌, ◌≢◌, ◌≤◌, ◌⊎◌}
 use Rattle.wasmi_machine.proofs.Common.{nat_tests, length-append, length-replicate, map-set, map_push, none-some, same_Some, option_and_then, MatchBool, if◌then◌else◌, is_none, nat_eq, slice_set, ◌&&◌, CustomFuelCosts, IsOtherFailure, AsksFor, At, Denial, Exchange, Exchanges, GrowsAsAsked, GrowsBy, New, Nothing, NothingGrows, Notice, Nowhere, Passes, Permission, Place, RepliesTo, charge_at, writing_price, failed_charge, failed_reply, growth_charge, growth_due, growth_question, place_of, question_in, question_of, table_growth_question, writing_charge, RunsGrowAsPermitted, CreatesLent, ActsAt, AddsEntry, Creates, reply_of, MemoryPart, live_at, memory_part, byte_count, sizes, slot_count, Turn, outcome_of, World, Changed, Effect, FuelSet, LentMemoryMade, MemoryGrown, MemoryMade, RangeWritten, Step, TableGrown, TableMade, HasEffect, effect_of, Grows, Growth, Makes, metered_value, Call, GrowMemory, GrowTable, NewLentMemory, NewMemory, NewTable, Reply, Slot, Live, AttemptOutcome, Denied, Failed, Follows, IsFirstCause, MayEnd, Met, MeteredValue, Request, Unasked, answer_of, covers, error_of_answer, error_of_failure, optional_due, outcome_charge, value_after, copy_cost, Meter, due, Failure, MemoryFailure, NoticeAnswer, Question, Rules, TableFailure, kind_of, Kind, Bytes, Elements, Lent, Owned, Room, fits_room, GrowsMemoryCharging, MakesMemory, MemoryValue, new_memory, MemoryTypeValue, minimum_bytes, page_bytes, GrowsTableCharging, MakesTable, TableValue, new_table, size_of, TableTypeValue, is_within_maximum, same_type, TypedRawRef, memory_growth, table_growth}
 use Rattle.wasmi_machine.proofs.EffectLemmas.{on_found}
@@ -16,7 +16,8 @@ use Rattle.wasmi_machine.specs.declared.calls.Reply.TheVariants as replied
 use Rattle.wasmi_meter.specs.declared.error.MemoryError.TheVariants as memory_error
 use Rattle.wasmi_meter.specs.declared.error.TableError.TheVariants as table_error
 
--- a fact by a test, as of the type of the elements of a table that grows, with what the test found
+-- a fact by a test, as an exchange for a growth of a table has one of the type of its elements, with what the test
+-- found
 on_tested : {C : Type 0} (test : Bool) (Holds Fails : Type 0) → MatchBool test Holds Fails
     → (test ≡ true → Holds → C) → (test ≡ false → Fails → C) → C
 on_tested true Holds Fails h holds fails = holds refl h
@@ -291,13 +292,13 @@ module _ {S X : Type 0} (rules : Rules S) (v : Watch S X) where
       (λ x found h. passes x h.1 h.0 (record { found = found; put = h.4 }) (is ∙ ap (option_and_then asked) found) h.3
       h.2)
 
--- what is due for a difference, as it is for what was added
+-- what a growth is charged: what is due for the difference of the sizes, as it is for what was added
 due_again : (m : Meter) (bytes old added : ℕ)
     → due m (λ costs. copy_cost costs added bytes) ≡ due m (λ costs. copy_cost costs (old + added - old) bytes)
 due_again m bytes old added =
     ap (λ n. due m (λ costs. copy_cost costs n bytes)) (let same : added ≡ old + added - old = omega arith in same)
 
--- a cause after the question that a test decides
+-- why what an exchange permitted fails: a cause after the question that a test decides
 pub late_is : {E : Type 0} (fits : Bool) (late cause : E) → (if fits then None else Some late) ≡ Some cause
     → late ≡ cause
 late_is true late cause is = absurd (none-some cause is)
@@ -461,7 +462,7 @@ module _ {S : Type 0} (rules : Rules S) (w : World S) (turn : Turn) (w' : World 
       (ap (λ (s : MeteredValue TableValue S). s.limiter) h.2) (same_count rules watch k x x' replaced
       (ap (λ (s : MeteredValue TableValue S). size_of s.value) h.2)) h.1)) acts
 
--- an effect makes nothing grow
+-- nothing has grown by an effect
 abbrev GrowsNothing : Effect → Type 0
 GrowsNothing (MemoryMade ty) = ⊥
 GrowsNothing (LentMemoryMade ty) = ⊥

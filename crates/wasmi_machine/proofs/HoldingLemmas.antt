@@ -2,10 +2,9 @@
 -- another limiter may do (`Carries`), also where it may be absent.
 use Rattle.std.proofs.Common.{◌≡◌, ◌≢◌, ℕ, ◌+◌, ◌-◌, Option, Some, None, Result, Ok, Err, true, List, [], ◌∷◌, sum, refl, sym, ap, ◌∙◌, arith, IfOk, OnErr}
 use Rattle.wasmi_machine.proofs.Common.{same_Some, Kind, Bytes, Elements, HoldsTheSame, Reserves, GivesBack, with_more, SameCaps, IsWithinCaps, Capped, capped_rules, capped_quota, quota_rules, Question, Answer, Failure, kind_of, NoticeAnswer, Rules, AskedIf, NoticedIf, optional_rules, Call, Reply, State, World, Turn, world, sizes, HoldsTotals, Run, IsRunOf, Step, Exchange, Nothing, Denial, Permission, Notice, Place, Nowhere, New, At, place_of, Passes, NothingGrows, GrowsAsAsked, GrowsBy, option_and_then}
-use Rattle.wasmi_meter.specs.declared.quota.Holdings.{Holdings}
+use Rattle.wasmi_meter.specs.declared.{quota.Holdings.Holdings, quota.Quota.Quota}
 use Rattle.wasmi_machine.proofs.TotalLemmas.{sum_set, sum_push}
 use Rattle.wasmi_machine.proofs.ExchangeLemmas.{growths_are_permitted}
-use Rattle.wasmi_meter.specs.declared.quota.Quota.{Quota}
 use Rattle.wasmi_meter.specs.Capped.{IsWithin}
 use Rattle.wasmi_meter.proofs.CappedLemmas.{denial_keeps, given_back, KeepsCaps, caps_kept, others_kept, asked_is_within, noticed_is_within, quota_keeps}
 
@@ -172,7 +171,7 @@ pub record IsLater {L : Type 0} (c : Capped L) (first later : L) : Type 0 where
   pub others : (kind : Kind) → c.others later kind ≡ c.others first kind
 
 module _ {L : Type 0} (c : Capped L) (keeps : KeepsCaps c) (first : L) where
-  -- one that is within its caps and is another one but for its holdings
+  -- what a run may make of a limiter: one that is within its caps and is another one but for its holdings
   still_later : (l l' : L) → IsLater c first l → l' ≡ c.with_holdings l (c.holdings l') → IsWithin c l'
       → IsLater c first l'
   still_later l l' later rest within = record {

@@ -1,9 +1,8 @@
 -- A run under a limiter of one of three kinds (`AnyLimiter`) is one by the rules of its kind, and the kind stays.
 use Rattle.std.proofs.Common.{◌≡◌, Option, Some, None, List, [], ◌∷◌, refl}
 use Rattle.wasmi_machine.proofs.Common.{Rules, optional_rules, quota_rules, RelatesByKind, RepliesKeepKind, RunsKeepKind, RunsOfCallsKeepKind, IsRunOf, Run, RepliesWith, State, World, Turn, world}
-use Rattle.wasmi_meter.specs.declared.any_limiter.AnyLimiter.{AnyLimiter}
+use Rattle.wasmi_meter.specs.declared.{any_limiter.AnyLimiter.AnyLimiter, quota.Quota.Quota}
 use Rattle.wasmi_meter.specs.declared.any_limiter.AnyLimiter.TheVariants as limiter
-use Rattle.wasmi_meter.specs.declared.quota.Quota.{Quota}
 use Rattle.wasmi_meter.specs.AnswerList.{AnswersAhead, answer_list_rules}
 use Rattle.wasmi_meter.specs.AnyLimiter.{any_limiter_rules, quota_of}
 use Rattle.wasmi_machine.proofs.HoldingLemmas.{Carries, optional_carries}

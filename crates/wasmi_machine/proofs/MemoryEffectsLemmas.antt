@@ -1,4 +1,4 @@
--- What holds of each effect on memories: errors for lack of memory, reads, writes and stores.
+-- What holds of each effect on memories: that they stay valid, errors for lack of memory, reads, writes and stores.
 use Rattle.std.proofs.Common.{Err, List, None, Ok, Option, Result, Some, ap, inl, inr, length, refl, sym, ℕ, ◌∙◌, ◌≡◌}
 use Rattle.wasmi_machine.proofs.Common.{IsNotOutOfMemory, ReadsBytes, StoresMemory, WritesMemoryAt, StoresVectorAt, byte_count, Reply, MemoryError, LacksMemory, Lent, Owned, Room, IsValidMemory, MemoryValue, WritesMemory, overwrite}
 use Rattle.wasmi_machine.proofs.EffectLemmas.{PutsOr, SlotFacts, setting_facts, settled_facts}
@@ -14,7 +14,7 @@ pub lacks_owned : (room : Room) (cause : MemoryError) → LacksMemory room cause
 lacks_owned Owned cause lacks = lacks
 lacks_owned (Lent rest) cause lacks = absurd lacks
 
--- two reads of bytes have one reply, where there is enough memory
+-- two reads of a memory's bytes have one reply, where there is enough memory
 pub read_same : (found : Option (List ℕ)) (reply reply' : Reply) → IsNotOutOfMemory reply → IsNotOutOfMemory reply'
     → ReadsBytes found reply → ReadsBytes found reply' → reply ≡ reply'
 read_same None reply reply' room room' a b = a ∙ sym b
@@ -26,7 +26,7 @@ read_same (Some bytes) reply reply' room room' (inr a) (inr b) = a ∙ sym b
 pub memory_as_long : (x x' : MemoryValue) → x'.ty ≡ x.ty → byte_count x' ≡ byte_count x → IsValidMemory x → IsValidMemory x'
 memory_as_long x x' same long valid = record { type = rw same valid.type; sized = rw (same, long) valid.sized }
 
--- a memory with other bytes
+-- a memory with other bytes, as a write or a store leaves it
 abbrev pub with_bytes : MemoryValue → List ℕ → MemoryValue
 with_bytes x bytes = record x { bytes = bytes }
 

@@ -1,5 +1,6 @@
 -- What holds of each write over a range of a memory or a table: it is refused, and nothing has changed, or it is paid
--- for. What each source of one writes and costs; copies from one index to another.
+-- for. What each source of one writes and costs; copies from one index to another, for which what is at one is taken
+-- out and put back.
 use Rattle.std.proofs.Common.{List, None, Option, Result, Some, ap, inl, inr, refl, replicate, sym, true, false, Bool, ℕ, arith, ◌∙◌, ◌≡◌, ◌≤◌, ◌⊎◌, length, ◌≢◌}
 use Rattle.wasmi_machine.proofs.Common.{nat_tests, none-some, same_Some, set-set, option_and_then, option_map, nat_eq, nat_le, slice_set, if◌then◌else◌, at, overwrite, MemoryError, TableError, CustomFuelCosts, MeteredValue, optional_due, Meter, amount_left, cut_product, meter_after, metered, IsValidMemory, MemoryTypeValue, MemoryValue, MemoryWrite, bytes_write, IsValidTable, TableValue, element_price, elements_write, size_of, with_elements, Reply, Slot, Live, Gone, IsNotOutOfMemory, ActsMeteredUnasked, IsNoSuch, MeteredSlots, OnLive, WritesAt, WritesFrom, WritesRangeAt, item_bytes, reply_of, NothingGrows, writing_charge, IsValid, State, Turn, World, byte_count, live_at, sizes, with_memories, with_tables, live_value, HasRangeWrite, MemoryWritten, RangeWrite, TableWritten, ByteSource, OfByte, OfBytes, WritesMemoryFrom, byte_write_of, bytes_in, memory_copy_of, OfReference, OfSegment, OfTable, Source, write_of, outcome_of}
 use Rattle.wasmi_meter.specs.declared.error.MemoryError.TheVariants as memory_error
@@ -140,13 +141,13 @@ pub refused_writing : (m : Meter) (price : Option (CustomFuelCosts → ℕ)) (re
 refused_writing m price replied.Done refused = absurd refused
 refused_writing m price reply refused = refl
 
--- no item has no byte
+-- a write over a range of no item has written no byte
 no_item : (size n : ℕ) (reply : Reply) → n ≡ 0 → item_bytes size n reply ≡ 0
 no_item size n replied.Done none = rw none (omega arith)
 no_item size n (replied.Number number) none = rw none (omega arith)
 no_item size n reply none = refl
 
--- a refusal has written no byte
+-- a refused write over a range has written no byte
 refused_bytes : (size n : ℕ) (reply : Reply) → IsRefusal reply → item_bytes size n reply ≡ 0
 refused_bytes size n replied.Done refused = absurd refused
 refused_bytes size n (replied.Number number) refused = absurd refused

@@ -1,5 +1,5 @@
--- What the replies of a run reveal of its limiter: a run is one under another limiter too, where its replies show it and
--- the limiter is in states of which this holds.
+-- What the replies of a run reveal of its limiter: a run is one under another limiter too, in the image of its state,
+-- where its replies show it or the one carries the other (`Carries`), and the limiter is in states of which this holds.
 use Rattle.std.proofs.Common.{Err, List, Result, Some, [], ap, inl, inr, map, refl, sym, true, ℕ, ◌∙◌, ◌∷◌, ◌≡◌, Ok}
 use Rattle.wasmi_machine.proofs.Common.{All-head, All-tail, All, on_test_too, grows_too, ActsAt, Creates, reply_of, Run, Changed, Effect, FuelSet, LentMemoryMade, MemoryGrown, MemoryMade, MemoryWritten, RangeWritten, TableGrown, TableMade, TableWritten, HasEffect, effect_of, Step, live_at, Turn, World, Reply, Slot, Attempt, Denied, Request, Failed, AttemptOutcome, Follows, Met, MeteredValue, Unasked, alone, answer_of, error_of_answer, error_of_failure, with_value, Rules, Lent, Owned, Room, Grows, Growth, Makes, metered_value, GrowsMemoryCharging, MemoryValue, new_memory, MemoryTypeValue, GrowsTableCharging, TableValue, new_table, TableTypeValue, same_type, RefType, permitting, TellsNoDenial, memory_growth, table_growth, outcome_of}
 use Rattle.wasmi_machine.proofs.EffectLemmas.{on_live_too}
@@ -171,7 +171,7 @@ module _ {S T : Type 0} {within : S → Type 0} {image : S → T} {rules : Rules
   carrying =
       record { rules = rules; image = image; narrower = rules'; shown = λ reply. Unit {0}; within = within }
 
-  -- in an attempt, the first does what the second may do
+  -- in an attempt, whatever is replied, the first does what the second may do
   carries_revealed : {V E : Type 0} (refusal : E → Reply) (e : Request V E) → Reveals carrying refusal e
   carries_revealed refusal e (Unasked c) l l' here shown f = ap image f
   carries_revealed refusal e (Denied answer) l l' here shown f = (carries.asked l e.question answer l' here f).1

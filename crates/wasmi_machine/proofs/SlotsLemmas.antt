@@ -1,6 +1,6 @@
 -- Items of a list and slots, as they are read, set, written over and put back.
-use Rattle.std.proofs.Common.{List, None, Option, Some, [], ap, refl, set, suc, sym, zero, ℕ, ◌∙◌, ◌∷◌, ◌≡◌, arith, ◌++◌, ◌+◌, ◌≤◌, length, take, drop, Bool, true, false}
-use Rattle.wasmi_machine.proofs.Common.{set-get_or, get_or_from_slice_get, none-some, same_Some, option_and_then, slice_get, slice_set, live_at, live_value, Slot, Gone, Live, leb-true, common_steps, cond_some, if◌then◌else◌, nat_le, overwrite}
+use Rattle.std.proofs.Common.{List, None, Option, Some, [], ap, refl, set, suc, sym, zero, ℕ, ◌∙◌, ◌∷◌, ◌≡◌, arith, ◌++◌, ◌+◌, ◌<◌, ◌≤◌, length, length-set, take, drop, Bool, true, false}
+use Rattle.wasmi_machine.proofs.Common.{slice_get_within, set-get_or, get_or_from_slice_get, none-some, same_Some, option_and_then, slice_get, slice_set, live_at, live_value, Slot, Gone, Live, leb-true, common_steps, cond_some, if◌then◌else◌, nat_le, overwrite}
 
 module _ {X : Type 0} where
   -- an item that was set is read
@@ -26,6 +26,12 @@ module _ {X : Type 0} where
   live_slot None x found = absurd (none-some x found)
   live_slot (Some (Gone last)) x found = absurd (none-some x found)
   live_slot (Some (Live y)) x found = ap (λ z. Some (Live z)) (same_Some y x found)
+
+-- the index of a value that was taken out of its slot is within the slots
+pub taken_within : {X : Type 0} (slots slots' : List (Slot X)) (k : ℕ) (x : X) → Some x ≡ live_at slots k
+    → slots' ≡ slice_set slots k (Gone 0) → k < length slots'
+taken_within slots slots' k x found taken = rw (taken, length-set slots k (Gone 0))
+    (slice_get_within slots k (Live x) (live_slot (slice_get slots k) x (sym found)))
 
 -- the same value is put back into its slot
 pub put_back : {X : Type 0} (slots : List (Slot X)) (k : ℕ) (x x' : X) → live_at slots k ≡ Some x → x' ≡ x

@@ -122,12 +122,12 @@ module _ (s : State) where
   the_registers =
       unsized refl (λ part. (refl, refl, refl)) (λ part keeps. valid_by s _ (λ v. v) (λ v. v) (λ v. v) (λ v. keeps ∙ v))
 
--- the facts of an addition of an item that is valid whatever it is
+-- the facts of a change that adds an item to a part of the state, which is valid whatever it is
 addition_facts : {X : Type 0} (Lacks : Type 0) (x : X) (items : List X)
     → EffectFacts (AddsItem Lacks x items) items (λ after. Unit {0})
 addition_facts Lacks x items = room_facts tt (settled_facts (λ refused. absurd refused) tt)
 
--- the facts of a drop of what an item has
+-- the facts of a change that drops what an item has
 contents_facts : {X : Type 0} (without : X → X) (k : ℕ) (items : List X) (Keeps : List X → Type 0) → Keeps items
     → ((x : X) → Keeps (slice_set items k (without x))) → EffectFacts (DropsContents without k items) items Keeps
 contents_facts without k items Keeps keeps kept = found_facts (set_read items k)
@@ -135,7 +135,7 @@ contents_facts without k items Keeps keeps kept = found_facts (set_read items k)
     (λ x reply reply' x' x'' c c'. (c.0 ∙ sym c'.0, c.1 ∙ sym c'.1)) keeps
     (λ x found reply x' c. rw c.1 (kept x))
 
--- the facts of a register that takes what it is given
+-- the facts of a change of the registers, of which one takes what it is given
 takes_facts : (given : Option (Result RawVal TrapCode)) (old : Option RawVal) (dst : ℕ) (registers : List RawVal)
     → EffectFacts (SetsAt given old dst registers) registers (λ registers'. length registers' ≡ length registers)
 takes_facts (Some (Ok value)) (Some old) dst registers =

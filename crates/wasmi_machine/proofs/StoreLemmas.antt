@@ -1,5 +1,5 @@
--- Turns by what a call replies and leaves, as the functions of `src/store.rt` answer it, also from another world; and
--- turns and runs one after another.
+-- Turns by what a call replies and leaves, as the functions of `src/store.rt` answer it, also from another world and by
+-- a copy of bytes; and turns and runs one after another.
 use Rattle.std.proofs.Common.{Some, refl, ℕ, ◌∙◌, ◌≡◌, ◌+◌, ◌<◌, List, [], ◌∷◌, ◌++◌, length, take, get_or, arith, ◌^◌}
 use Rattle.wasmi_machine.proofs.Common.{ActsMetered, ActsMeteredUnasked, Asks, Changes, ChangesPart, IfNoRoom, OnlyReplies, State, Turn, TurnOutcome, World, world, metered, metered_value, WithCharge, Call, Reply, MeteredValue, Meter, take_more, map-append, Rules, Step, RepliesWith, Sequence, Run, IsRunOf, Vec, WritesMemoryAt, RepliesWithoutLimiter, SomeCopy, Write, with_memories}
 use Rattle.std.specs.Global.{Global}
@@ -126,7 +126,7 @@ module _ {S T : Type 0} {v v' : World S} {w w' : World T} {outcome : TurnOutcome
       after = after;
     }
 
-    -- a turn that acts on one part of the state, with a charge
+    -- a turn that acts on one part of the state, with a charge, from another world too
     pub acts_too : {old old' : A} {Relation : MeteredValue A S → Reply → ℕ → MeteredValue A S → Type 0}
         {Relation' : MeteredValue A T → Reply → ℕ → MeteredValue A T → Type 0} {bytes bytes' : Reply → ℕ}
         (step : ActsMetered v outcome v' old with_part Relation bytes) (part : A) (meter : Meter) (limiter : T)
@@ -153,7 +153,7 @@ module _ {S T : Type 0} {v v' : World S} {w w' : World T} {outcome : TurnOutcome
     unasked_too step part meter effect after =
         record { part = part; meter = meter; effect = effect; wrote = step.wrote; after = after }
 
--- a `Vec` with these items
+-- a `Vec` with these items, for a turn by the call `Write`
 abbrev pub vec_of : (items : List ℕ) → length items < 2 ^ 63 → Vec ℕ Global
 vec_of items short = record {
   ptr = null_ptr;

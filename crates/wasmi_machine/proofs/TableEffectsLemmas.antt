@@ -1,4 +1,5 @@
--- What holds of each effect on tables, and of memory that is reserved for their elements.
+-- What holds of each effect on tables: that they stay valid, elements that are set, and memory that is reserved for
+-- their elements.
 use Rattle.std.proofs.Common.{Bool, List, None, Option, Result, [], false, refl, true, ℕ, ◌∷◌, ◌≡◌, ⊎_elim}
 use Rattle.wasmi_machine.proofs.EffectLemmas.{AllValid, PutsOr, SlotFacts, live_valid, on_live, put_valid, setting_facts}
 use Rattle.wasmi_machine.proofs.Common.{ReservesElementsAt, SetsElementAt, live_at, Reply, Slot, Live, MatchBool, if◌then◌else◌, TableError, IsValidTable, SetsTable, SetsTableRaw, TableValue, size_of, same_type, with_elements, TypedRawRef, overwrite}

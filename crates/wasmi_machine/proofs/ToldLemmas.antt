@@ -59,7 +59,7 @@ module _ {S : Type 0} (rules : Rules S) (IsAccepting : S → Type 0) (stays : St
         table_grown = λ x n reference. want_revealed replied.Table (table.growth_of x n reference) no_table;
       }) (step_stays accepting)
 
--- no reply of turns says out of memory, where the replies are these and none of them does
+-- none of the turns of a run says out of memory, where its replies are these and none of them does
 pub replies_have : (turns : List Turn) (replies : List Reply) → map Turn.reply turns ≡ replies
     → All IsNotOutOfMemory replies → AreNotOutOfMemory turns
 replies_have turns replies is all = rw is all

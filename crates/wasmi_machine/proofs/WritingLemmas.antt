@@ -77,7 +77,7 @@ module _ {V E S : Type 0} (rules : Rules S) (g : Growth V E) (s s' : MeteredValu
         by_outcome Met may charged answered = bound may.0 charged
         by_outcome outcome may charged answered = absurd cc
 
--- the bytes that a growth of a memory within its bounds adds are less than 2 to the power 64
+-- the bytes that a turn writes by a growth of a memory within its bounds are less than 2 to the power 64
 added_fits : (b c : Bool) (x : MemoryValue) (pages : ℕ)
     → (b && c && nat_lt ((pages_of x + pages) * page_bytes x.ty.page) (2 ^ 64)) ≡ true
     → pages * page_bytes x.ty.page < 2 ^ 64
@@ -91,7 +91,7 @@ added_fits b c x pages inside =
     x.ty.page = add-mul (pages_of x) pages (page_bytes x.ty.page) in
     omega (arith, below, split)
 
--- the test of the bounds of a growth holds where its request has no early cause
+-- the test of the bounds of a growth that writes holds where its request has no early cause
 pub early_none : {E : Type 0} (test : Bool) (cause : E) → (if test then None else Some cause) ≡ None → test ≡ true
 early_none true cause is = refl
 early_none false cause is = absurd cc
@@ -236,7 +236,7 @@ module _ {S : Type 0} (rules : Rules S) where
       mul-le-mul_left (rate w.state.meter) (omega (arith, bounds.spent.2)) in
       record { by_charges = bounds.paid; by_fuel = omega (arith, bounds.paid, all) }
 
--- a call that doesn't set the fuel goes on with the account
+-- what a call that doesn't set the fuel was charged is added to the account
 goes_on : (account : Account) (call : Call) (charge : ℕ) → SetsNoFuel call
     → charged_by account call charge ≡ record { granted = account.granted; charged = account.charged + charge }
 goes_on account (SetFuel fuel) charge none = absurd none

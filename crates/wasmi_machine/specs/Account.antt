@@ -2,10 +2,9 @@
 -- written for their charges.
 use Rattle.std.specs.Prelude.{◌≡◌, ◌+◌, ◌≤◌, ℕ, Some, List, fold, sum_by, ◌-◌, ◌*◌, ◌<◌, Bool, true, false, ◌&&◌, if◌then◌else◌, count_by}
 use Rattle.wasmi_meter.specs.Meter.{Meter, meter_set, PaysCharge}
-use Rattle.wasmi_machine.specs.declared.calls.Call.{Call}
+use Rattle.wasmi_machine.specs.declared.{calls.Call.Call, calls.Reply.Reply}
 use Rattle.wasmi_machine.specs.declared.calls.Call.TheVariants.{SetFuel}
 use Rattle.wasmi_machine.specs.State.{Turn}
-use Rattle.wasmi_machine.specs.declared.calls.Reply.{Reply}
 use Rattle.wasmi_machine.specs.declared.calls.Reply.TheVariants.{Done, Number}
 use Rattle.wasmi_machine.specs.Steps.{is_charged}
 

@@ -2,16 +2,14 @@
 -- replies and runs that don't say out of memory, and replies that tell no denial.
 use Rattle.std.specs.Prelude.{◌≡◌, List, Ok, Option, Some, None, true, All, map}
 use Rattle.wasmi_meter.specs.Limiter.{Question, Answer, Failure, MemoryFailure, TableFailure, NoticeAnswer, Rules, optional_rules}
-use Rattle.wasmi_machine.specs.declared.calls.Reply.{Reply}
+use Rattle.wasmi_machine.specs.declared.{calls.Reply.Reply, calls.Call.Call}
 use Rattle.wasmi_machine.specs.declared.calls.Reply.TheVariants.{Memory, Table, Segment, NoRoom}
 use Rattle.wasmi_machine.specs.State.{Turn, State, World, world}
-use Rattle.wasmi_meter.specs.declared.any_limiter.AnyLimiter.{AnyLimiter}
-use Rattle.wasmi_meter.specs.declared.quota.Quota.{Quota}
+use Rattle.wasmi_meter.specs.declared.{any_limiter.AnyLimiter.AnyLimiter, quota.Quota.Quota}
 use Rattle.wasmi_meter.specs.AnswerList.{AnswersAhead, answer_list_rules}
 use Rattle.wasmi_meter.specs.AnyLimiter.{any_limiter_rules}
 use Rattle.wasmi_meter.specs.Capped.{quota_rules}
 use Rattle.wasmi_machine.specs.Steps.{Run, IsRunOf, RepliesWith}
-use Rattle.wasmi_machine.specs.declared.calls.Call.{Call}
 use Rattle.wasmi_meter.specs.declared.error.MemoryError.TheVariants as memory
 use Rattle.wasmi_meter.specs.declared.error.TableError.TheVariants as table
 use Rattle.wasmi_store.specs.declared.table.element.SegmentError.TheVariants as segment
@@ -51,10 +49,8 @@ IsOtherFailure failure = Unit {0}
 
 -- the rules by which no limiter is notified that memory was refused
 abbrev pub never_out_of_memory : {S : Type 0} → Rules S → Rules S
-never_out_of_memory rules = record {
-  asked = rules.asked;
-  noticed = λ l failure notice_answer l'. rules.noticed l failure notice_answer l' × IsOtherFailure failure;
-}
+never_out_of_memory rules =
+    record rules { noticed = λ l failure answer l'. rules.noticed l failure answer l' × IsOtherFailure failure }
 
 -- the reply doesn't say out of memory
 abbrev pub IsNotOutOfMemory : Reply → Type 0
@@ -70,10 +66,7 @@ AreNotOutOfMemory turns = All IsNotOutOfMemory (map Turn.reply turns)
 
 -- the rules by which each question is permitted
 abbrev pub permitting : {S : Type 0} → Rules S → Rules S
-permitting rules = record {
-  asked = λ l question answer l'. (answer ≡ Ok true) × rules.asked l question answer l';
-  noticed = rules.noticed;
-}
+permitting rules = record rules { asked = λ l q answer l'. (answer ≡ Ok true) × rules.asked l q answer l' }
 
 -- the reply reports no denial, and is no error by which a denial is reported
 abbrev pub TellsNoDenial : Reply → Type 0

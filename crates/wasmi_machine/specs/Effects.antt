@@ -5,9 +5,8 @@ use Rattle.wasmi_meter.specs.Attempt.{MeteredValue, with_value}
 use Rattle.wasmi_meter.specs.Meter.{Meter, cut_product}
 use Rattle.wasmi_store.specs.Growth.{metered, metered_value}
 use Rattle.wasmi_store.specs.Write.{MeteredWrite, WritesCharging}
-use Rattle.wasmi_machine.specs.declared.calls.Reply.{Reply}
+use Rattle.wasmi_machine.specs.declared.{calls.Reply.Reply, slots.Slot.Slot}
 use Rattle.wasmi_machine.specs.declared.calls.Reply.TheVariants.{Done, Made, Number, NoSuch, NoRoom}
-use Rattle.wasmi_machine.specs.declared.slots.Slot.{Slot}
 use Rattle.wasmi_machine.specs.declared.slots.Slot.TheVariants.{Live, Gone}
 use Rattle.wasmi_machine.specs.State.{State, live_at, World, world, TurnOutcome, IsFree}
 
@@ -20,12 +19,11 @@ reply_of answer refusal (Err error) = refusal error
 abbrev pub reply_or_no_such : Option Reply → Reply
 reply_or_no_such reply = unwrap_or reply NoSuch
 
--- a fact of the live value of an index; where the index names none, the other fact
+-- a fact of an effect on the live value of an index; where the index names none, the other fact
 abbrev pub OnLive : {X : Type 0} → Option X → Type 0 → (X → Type 0) → Type 0
 OnLive o Missing Fact = MatchOption o Missing Fact
 
--- the value that an index names has become another, which is put back; where the index names none it is `NoSuch`, and
--- nothing has changed
+-- the value that an index names has become another, which is put back; without one it is `NoSuch`, and nothing changes
 abbrev pub ChangesFound : {X A : Type 0} → Option X → (X → A) → A → Reply → A → (X → X → Type 0) → Type 0
 ChangesFound found put part reply part' Change = OnLive found ((reply ≡ NoSuch) × (part' ≡ part))
     (λ x. (x' : _) × Change x x' × (part' ≡ put x'))

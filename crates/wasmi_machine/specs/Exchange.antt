@@ -1,13 +1,12 @@
--- Exchanges: what passes between a machine and its limiter in one turn, the question of each call, the size that grows
--- by it, and what growths and writes over a range are charged.
+-- Exchanges: what passes between a machine and its limiter in one turn, the question of each call, the replies to it,
+-- the size that grows by it, and what growths and writes over a range are charged.
 use Rattle.std.specs.Prelude.{◌≡◌, ◌≢◌, ◌≤◌, ◌-◌, ◌⊎◌, ◌++◌, ℕ, Option, Some, None, Ok, true, nat_eq, is_none, if◌then◌else◌, List, [], ◌∷◌, slice_get, slice_set}
 use Rattle.std.specs.Option.{option_map, option_and_then}
-use Rattle.wasmi_meter.specs.declared.limiter.Kind.{Kind}
+use Rattle.wasmi_meter.specs.declared.{limiter.Kind.Kind, fuel.CustomFuelCosts.CustomFuelCosts}
 use Rattle.wasmi_meter.specs.declared.limiter.Kind.TheVariants.{Bytes, Elements}
 use Rattle.wasmi_meter.specs.declared.error.MemoryError.TheVariants as memory_error
 use Rattle.wasmi_meter.specs.declared.error.TableError.TheVariants as table_error
 use Rattle.wasmi_meter.specs.Limiter.{Question, Answer, IsDenial, Failure, MemoryFailure, TableFailure, kind_of, NoticeAnswer, Rules}
-use Rattle.wasmi_meter.specs.declared.fuel.CustomFuelCosts.{CustomFuelCosts}
 use Rattle.wasmi_meter.specs.Meter.{copy_cost, Meter, due}
 use Rattle.wasmi_meter.specs.Attempt.{Request, error_of_failure, optional_due}
 use Rattle.wasmi_store.specs.Buffer.{Owned, Lent}
@@ -16,8 +15,7 @@ use Rattle.wasmi_store.specs.Write.{item_price}
 use Rattle.wasmi_store.specs.Memory as memory
 use Rattle.wasmi_store.specs.Table as table
 use Rattle.wasmi_store.specs.Table.{TableValue, same_type}
-use Rattle.wasmi_machine.specs.declared.calls.Call.{Call}
-use Rattle.wasmi_machine.specs.declared.calls.Reply.{Reply}
+use Rattle.wasmi_machine.specs.declared.{calls.Call.Call, calls.Reply.Reply}
 use Rattle.wasmi_machine.specs.declared.calls.Reply.TheVariants.{Done, Memory, Table, NoRoom}
 use Rattle.wasmi_machine.specs.State.{State, live_at, World, Turn, IsRefusal, sizes}
 use Rattle.wasmi_machine.specs.Account.{ChangesMeter}
@@ -130,8 +128,7 @@ bytes_of_one Elements = 4
 abbrev pub growth_due : Meter → Question → ℕ
 growth_due m q = due m (λ costs. copy_cost costs (q.desired - q.current) (bytes_of_one q.kind))
 
--- what is charged of a price for a growth that failed: memory is refused after it was paid, and each other cause is
--- found before
+-- what a failed growth is charged of a price: memory is refused after it was paid, each other cause is found before
 abbrev pub failed_charge : Failure → ℕ → ℕ
 failed_charge (MemoryFailure memory_error.OutOfSystemMemory) price = price
 failed_charge (TableFailure table_error.OutOfSystemMemory) price = price

@@ -1,18 +1,16 @@
--- What holds of all turns and runs of a machine: the statements of its laws, and what a refused turn keeps.
+-- What holds of all turns and runs of a machine, and of its memories in lent regions: the statements of its laws, and
+-- what a refused turn keeps.
 use Rattle.std.specs.Prelude.{◌≡◌, ◌⊎◌, ◌<◌, ◌≤◌, ◌+◌, ◌*◌, ◌++◌, ℕ, true, Option, Some, Result, Ok, List, length, map, All}
-use Rattle.wasmi_meter.specs.declared.quota.Holdings.{Holdings}
+use Rattle.wasmi_meter.specs.declared.{quota.Holdings.Holdings, error.MemoryError.MemoryError, quota.Quota.Quota}
 use Rattle.wasmi_meter.specs.Meter.{PaysCharge}
 use Rattle.wasmi_meter.specs.Limiter.{Question, Rules, Failure, NoticeAnswer, optional_rules}
 use Rattle.wasmi_meter.specs.Attempt.{MeteredValue, optional_due, covers}
-use Rattle.wasmi_meter.specs.declared.error.MemoryError.{MemoryError}
-use Rattle.wasmi_meter.specs.declared.quota.Quota.{Quota}
 use Rattle.wasmi_meter.specs.Capped.{SameCaps, IsWithinCaps, quota_rules}
 use Rattle.wasmi_store.specs.Buffer.{Lent, fits_room}
 use Rattle.wasmi_store.specs.Growth.{IsDenied}
 use Rattle.wasmi_store.specs.Memory.{MemoryTypeValue, page_bytes, minimum_bytes, in_bounds, MemoryValue, pages_of, growth_of, GrowsMemory}
-use Rattle.wasmi_machine.specs.declared.calls.Call.{Call}
+use Rattle.wasmi_machine.specs.declared.{calls.Call.Call, calls.Reply.Reply}
 use Rattle.wasmi_machine.specs.declared.calls.Call.TheVariants.{NewMemory, NewLentMemory}
-use Rattle.wasmi_machine.specs.declared.calls.Reply.{Reply}
 use Rattle.wasmi_machine.specs.State.{State, World, Turn, world, IsValid, IsValidCall, HoldsTotals}
 pub use Rattle.wasmi_machine.specs.State.{IsRefusal}
 use Rattle.wasmi_machine.specs.Steps.{Step, Sequence, Run, IsRunOf}
@@ -92,9 +90,8 @@ module _ {S : Type 0} (rules : Rules S) where
 
   -- a run in which no reply reports a denial is one in which each question was permitted
   abbrev pub RepliesPermit : Type 0
-  RepliesPermit =
-      (w : World S) (turns : List Turn) (w' : World S) → All TellsNoDenial (map Turn.reply turns) → Run rules w turns w'
-      → Run (permitting rules) w turns w'
+  RepliesPermit = (w : World S) (turns : List Turn) (w' : World S) → All TellsNoDenial (map Turn.reply turns)
+      → Run rules w turns w' → Run (permitting rules) w turns w'
 
   -- a run of calls whose types are valid leads from a valid state to a valid one
   abbrev pub RunsKeepValidity : Type 0
@@ -105,16 +102,14 @@ module _ {S : Type 0} (rules : Rules S) where
   -- while metering is on, what is left and the charges since the fuel was set last, or since the start, are what was
   -- set then, or left at the start
   abbrev pub FuelBalances : Type 0
-  FuelBalances = (w : World S) (left : ℕ) → w.state.meter.left ≡ Some left
-      → (turns : List Turn) (w' : World S) → Run rules w turns w'
-      → Balances (account_after (opened left) turns) w'.state.meter
+  FuelBalances = (w : World S) (left : ℕ) → w.state.meter.left ≡ Some left → (turns : List Turn) (w' : World S)
+      → Run rules w turns w' → Balances (account_after (opened left) turns) w'.state.meter
 
   -- while metering is on at a rate above 0, the bytes that a run writes by growing and copying are bounded by the fuel
   -- that is charged for them, and so by all the fuel that there was
   abbrev pub FuelBoundsWriting : Type 0
-  FuelBoundsWriting =
-      (w : World S) (left : ℕ) → w.state.meter.left ≡ Some left → 0 < w.state.meter.costs.bytes_copied_per_fuel
-      → (turns : List Turn) (w' : World S) → Run rules w turns w'
+  FuelBoundsWriting = (w : World S) (left : ℕ) → w.state.meter.left ≡ Some left
+      → 0 < w.state.meter.costs.bytes_copied_per_fuel → (turns : List Turn) (w' : World S) → Run rules w turns w'
       → IsBounded w.state.meter.costs.bytes_copied_per_fuel left turns
 
   -- while metering is on, what calls that don't set the fuel were charged is what was left before and isn't left after,
@@ -135,21 +130,18 @@ module _ {S : Type 0} (rules : Rules S) where
       (calls calls' : List Call) (u v w : World S) (replies replies' : List Reply) → IsRunOf rules calls u replies v
       → IsRunOf rules calls' v replies' w → IsRunOf rules (calls ++ calls') u (replies ++ replies') w
 
-  -- a run that makes no memory in a region and grows none past its own is a run of the same machine with memories of
-  -- their own
+  -- a run that makes no memory in a region and grows none past its own is one of the machine with owned memories
   abbrev pub LentRunsAreOwned : Type 0
   LentRunsAreOwned = (w : World S) (turns : List Turn) (w' : World S) → RunInRegions rules w turns w'
       → Run rules (owned_world w) turns (owned_world w')
 
   -- a creation in a spare region of at least the minimum is a creation of a memory of its own
   abbrev pub LentCreationsAreOwned : Type 0
-  LentCreationsAreOwned =
-      (w : World S) (turn : Turn) (w' : World S) (ty : MemoryTypeValue) (region : List ℕ) → turn.call ≡ NewLentMemory ty
-      → w.state.spare ≡ Some region → minimum_bytes ty ≤ length region
+  LentCreationsAreOwned = (w : World S) (turn : Turn) (w' : World S) (ty : MemoryTypeValue) (region : List ℕ)
+      → turn.call ≡ NewLentMemory ty → w.state.spare ≡ Some region → minimum_bytes ty ≤ length region
       → Step rules w turn w' → Step rules (unlent_world w) (record turn { call = NewMemory ty }) (unlent_world w')
 
-  -- a growth of a lent memory that its type and its region have place for, and that can be paid, is refused by the
-  -- limiter alone
+  -- a growth of a lent memory that its type and region have place for, and that can be paid, the limiter alone refuses
   abbrev pub LentGrowthsSucceed : Type 0
   LentGrowthsSucceed = (pages : ℕ) (s : MeteredValue MemoryValue S) (rest : List ℕ) → s.value.room ≡ Lent rest
       → in_bounds s.value.ty (pages_of s.value + pages) ≡ true

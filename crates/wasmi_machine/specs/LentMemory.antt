@@ -1,11 +1,11 @@
--- Machines with memories in lent regions, beside the same machines with memories of their own.
+-- Machines with memories in lent regions, beside the same machines with memories of their own; growths, calls and runs
+-- that fit these regions.
 use Rattle.std.specs.Prelude.{◌≡◌, ◌⊎◌, ◌+◌, ◌*◌, ℕ, true, false, List, map, None}
 use Rattle.wasmi_meter.specs.Limiter.{Rules}
 use Rattle.wasmi_store.specs.Buffer.{Owned, fits_room}
 use Rattle.wasmi_store.specs.Memory.{page_bytes, in_bounds, MemoryValue, pages_of}
-use Rattle.wasmi_machine.specs.declared.calls.Call.{Call}
+use Rattle.wasmi_machine.specs.declared.{calls.Call.Call, slots.Slot.Slot}
 use Rattle.wasmi_machine.specs.declared.calls.Call.TheVariants.{NewLentMemory, GrowMemory}
-use Rattle.wasmi_machine.specs.declared.slots.Slot.{Slot}
 use Rattle.wasmi_machine.specs.declared.slots.Slot.TheVariants.{Live, Gone}
 use Rattle.wasmi_machine.specs.State.{State, live_at, World, Turn}
 use Rattle.wasmi_machine.specs.Effects.{OnLive}

@@ -11,10 +11,8 @@ use Rattle.wasmi_meter.specs.declared.error.MemoryError.TheVariants.{OutOfBounds
 use Rattle.wasmi_meter.specs.Limiter.{Rules}
 use Rattle.wasmi_store.specs.Buffer.{Lent}
 use Rattle.wasmi_store.specs.Memory.{MemoryTypeValue, page_bytes, MemoryValue, MakesMemory, MemoryWrite, WritesMemory, byte_copy_of, byte_filling_of}
-use Rattle.wasmi_machine.specs.declared.calls.Reply.{Reply}
+use Rattle.wasmi_machine.specs.declared.{calls.Reply.Reply, memories.Stored.Stored, slots.Slot.Slot}
 use Rattle.wasmi_machine.specs.declared.calls.Reply.TheVariants.{Done, Value, Number, Bytes, Memory, Trap, NoSuch, NoRegion, NoRoom}
-use Rattle.wasmi_machine.specs.declared.memories.Stored.{Stored}
-use Rattle.wasmi_machine.specs.declared.slots.Slot.{Slot}
 use Rattle.wasmi_ops.specs.declared.load_store.LoadOp.{LoadOp}
 use Rattle.wasmi_ops.specs.LoadStoreOps.{loaded_raw, stored_bytes}
 use Rattle.wasmi_ops.specs.LaneOps.{stored_lane}
@@ -90,7 +88,7 @@ abbrev pub WritesMemoryFrom : {Y : Type 0} → Option Y → ℕ → (Y → Memor
     → MeteredSlots MemoryValue → Reply → ℕ → MeteredSlots MemoryValue → Type 0
 WritesMemoryFrom = WritesFrom Memory
 
--- what is copied over a part of a memory is of another one
+-- what a call copies over a part of a memory is of another one
 abbrev pub memory_copy_of : ℕ → ℕ → ℕ → MemoryValue → MemoryValue → MemoryWrite
 memory_copy_of dst src len source = byte_copy_of dst src len source.bytes
 

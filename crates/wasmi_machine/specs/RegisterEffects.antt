@@ -1,18 +1,15 @@
--- The calls on registers and on the vectors in them, loads and stores of vectors included: their replies, and what each
--- does to the registers.
+-- The calls on registers and on vectors in them, also loads and stores: their replies, and what each does to registers.
 use Rattle.std.specs.Prelude.{◌≡◌, ℕ, Option, Some, None, Result, Ok, Err, List, slice_get, slice_set}
 use Rattle.std.specs.Option.{option_map, option_map_or, option_and_then}
 use Rattle.wasmi_types.specs.declared.trap.TrapCode.{TrapCode}
 use Rattle.wasmi_raw.specs.declared.raw.RawVal.{RawVal}
 use Rattle.wasmi_raw.specs.RawVal.{vector_in, raw_of_vector}
 use Rattle.wasmi_store.specs.Memory.{MemoryValue}
-use Rattle.wasmi_ops.specs.declared.vector.VectorLoadOp.{VectorLoadOp}
-use Rattle.wasmi_ops.specs.declared.vector.LoadLaneOp.{LoadLaneOp}
+use Rattle.wasmi_ops.specs.declared.{vector.VectorLoadOp.VectorLoadOp, vector.LoadLaneOp.LoadLaneOp}
 use Rattle.wasmi_ops.specs.VectorOps.{loaded_vector}
 use Rattle.wasmi_ops.specs.LaneOps.{loaded_lane}
-use Rattle.wasmi_machine.specs.declared.calls.Reply.{Reply}
+use Rattle.wasmi_machine.specs.declared.{calls.Reply.Reply, slots.Slot.Slot}
 use Rattle.wasmi_machine.specs.declared.calls.Reply.TheVariants.{Done, Value, Trap, NoSuch}
-use Rattle.wasmi_machine.specs.declared.slots.Slot.{Slot}
 use Rattle.wasmi_ops.specs.LoadStoreOps.{as_raw}
 use Rattle.wasmi_machine.specs.MemoryEffects.{StoresMemoryAt}
 
@@ -20,8 +17,7 @@ use Rattle.wasmi_machine.specs.MemoryEffects.{StoresMemoryAt}
 abbrev pub vector_at : List RawVal → ℕ → Option ℕ
 vector_at registers r = option_map vector_in (slice_get registers r)
 
--- a register, if there is one, takes what a call gives it: the value; a trap keeps it; an operand that names nothing
--- gives nothing
+-- a register, if there is one, takes the value that a call gives it; a trap keeps it; an absent operand gives nothing
 abbrev pub SetsAt : Option (Result RawVal TrapCode) → Option RawVal → ℕ → List RawVal → Reply → List RawVal → Type 0
 SetsAt None old dst registers reply registers' = (reply ≡ NoSuch) × (registers' ≡ registers)
 SetsAt (Some given) None dst registers reply registers' = (reply ≡ NoSuch) × (registers' ≡ registers)

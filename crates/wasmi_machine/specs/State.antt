@@ -10,15 +10,10 @@ use Rattle.wasmi_store.specs.Memory.{MemoryValue, IsValidMemory}
 use Rattle.wasmi_store.specs.Segment.{SegmentValue, most_items}
 use Rattle.wasmi_store.specs.Table.{TableValue, size_of, IsValidTable}
 use Rattle.wasmi_machine.specs.ReservedList.{with_item}
-use Rattle.wasmi_machine.specs.declared.slots.Slot.{Slot}
+use Rattle.wasmi_machine.specs.declared.{slots.Slot.Slot, slots.Slots.Slots, slots.SlotCounts.SlotCounts, calls.Call.Call, calls.Reply.Reply}
 use Rattle.wasmi_machine.specs.declared.slots.Slot.TheVariants.{Live, Gone}
-use Rattle.wasmi_machine.specs.declared.slots.Slots.{Slots}
-use Rattle.wasmi_machine.specs.declared.slots.SlotCounts.{SlotCounts}
-use Rattle.wasmi_machine.specs.declared.calls.Call.{Call}
-use Rattle.wasmi_machine.specs.declared.calls.Reply.{Reply}
-use Rattle.wasmi_meter.specs.declared.limiter.Kind.{Kind}
+use Rattle.wasmi_meter.specs.declared.{limiter.Kind.Kind, quota.Holdings.Holdings}
 use Rattle.wasmi_meter.specs.declared.limiter.Kind.TheVariants.{Bytes, Elements}
-use Rattle.wasmi_meter.specs.declared.quota.Holdings.{Holdings}
 use Rattle.wasmi_machine.specs.declared.calls.Call.TheVariants.{NewMemory, NewLentMemory, NewTable}
 use Rattle.wasmi_machine.specs.declared.calls.Reply.TheVariants as reply
 use Rattle.wasmi_store.specs.Memory as memory
@@ -132,8 +127,7 @@ pub record World (S : Type 0) : Type 0 where
 abbrev pub world : {S : Type 0} → State → S → World S
 world machine limiter = record { state = machine; limiter = limiter }
 
--- one call with its reply, the fuel that it was charged, and how many bytes it has written by a growth or over a range
--- of a memory or a table
+-- one call with its reply, the fuel that it was charged, and the bytes that it has written by a growth or over a range
 pub record Turn : Type 0 where
   pub call : Call
   pub reply : Reply

@@ -1,14 +1,13 @@
 -- Steps and runs of a machine: the subject and the effect of each call, the vector that it makes, whether it is charged
--- for what it writes, what each effect changes in a world, and turns one after another.
+-- for what it writes, what each effect changes in a world, the replies to it, also by a copy of a slice, and turns one
+-- after another.
 use Rattle.std.specs.Prelude.{◌≡◌, ◌⊎◌, ◌+◌, ◌<◌, ◌≤◌, ℕ, Bool, true, false, List, Option, Some, None, Result, Ok, Vec, slice_get, [], ◌∷◌, length, map}
 use Rattle.std.specs.Global.{Global}
 use Rattle.std.specs.Option.{option_map, option_and_then}
 use Rattle.wasmi_types.specs.Numbers.{le_bytes}
-use Rattle.wasmi_types.specs.declared.trap.TrapCode.{TrapCode}
-use Rattle.wasmi_types.specs.declared.value.RefType.{RefType}
+use Rattle.wasmi_types.specs.declared.{trap.TrapCode.TrapCode, value.RefType.RefType}
 use Rattle.wasmi_raw.specs.declared.raw.RawVal.{RawVal}
-use Rattle.wasmi_typed.specs.declared.typed.TypedRawVal.{TypedRawVal}
-use Rattle.wasmi_typed.specs.declared.typed_ref.TypedRawRef.{TypedRawRef}
+use Rattle.wasmi_typed.specs.declared.{typed.TypedRawVal.TypedRawVal, typed_ref.TypedRawRef.TypedRawRef}
 use Rattle.wasmi_typed.specs.Global.{GlobalInstance}
 use Rattle.wasmi_lanewise.specs.VectorTable.{shuffle}
 use Rattle.wasmi_ops.specs.VectorOps.{binary_vector, made_vector, shifted_vector, ternary_vector, tested_raw, unary_vector}
@@ -17,8 +16,7 @@ use Rattle.wasmi_meter.specs.Limiter.{Rules}
 use Rattle.wasmi_store.specs.Buffer.{Owned}
 use Rattle.wasmi_store.specs.Memory.{MemoryTypeValue, MakesMemory, GrowsMemoryCharging}
 use Rattle.wasmi_store.specs.Table.{TableTypeValue, size_of, MakesTable, GrowsTableCharging}
-use Rattle.wasmi_machine.specs.declared.calls.Call.{Call}
-use Rattle.wasmi_machine.specs.declared.calls.Reply.{Reply}
+use Rattle.wasmi_machine.specs.declared.{calls.Call.Call, calls.Reply.Reply}
 use Rattle.wasmi_machine.specs.State.{World, Turn, TurnOutcome, outcome_of, world, State, live_at, with_memories, memory_part, with_tables, with_segments, with_data_segments, with_globals, with_registers, byte_count}
 use Rattle.wasmi_machine.specs.Effects.{reply_of, AddsItem, Creates, DropsAt, ActsAt, ChangesPart, OnlyReplies, Changes, Asks, ActsMetered, ActsMeteredUnasked, WritesRangeAt, item_bytes}
 use Rattle.wasmi_ops.specs.LoadStoreOps.{stored_bytes}

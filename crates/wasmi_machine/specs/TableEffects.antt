@@ -5,9 +5,8 @@ use Rattle.wasmi_typed.specs.declared.typed_ref.TypedRawRef.{TypedRawRef}
 use Rattle.wasmi_meter.specs.declared.error.TableError.{TableError}
 use Rattle.wasmi_store.specs.Segment.{SegmentValue}
 use Rattle.wasmi_store.specs.Table.{TableValue, TableWrite, with_elements_reserved, SetsTable, element_at, filling_of, copy_of, initialization_of}
-use Rattle.wasmi_machine.specs.declared.calls.Reply.{Reply}
+use Rattle.wasmi_machine.specs.declared.{calls.Reply.Reply, slots.Slot.Slot}
 use Rattle.wasmi_machine.specs.declared.calls.Reply.TheVariants.{Done, Reference, Table, NoRoom, NoSuch}
-use Rattle.wasmi_machine.specs.declared.slots.Slot.{Slot}
 use Rattle.wasmi_machine.specs.Effects.{reply_of, ChangesAt, MeteredSlots, WritesAt, WritesFrom, item_bytes}
 
 -- the element that is asked of a table, if the table is there

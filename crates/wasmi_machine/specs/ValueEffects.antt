@@ -2,8 +2,7 @@
 use Rattle.std.specs.Prelude.{◌≡◌, ◌⊎◌, ◌≤◌, ◌<◌, ℕ, Option, Result, Ok, Err, List, [], length, slice_get, if◌then◌else◌, is_some}
 use Rattle.std.specs.Option.{option_map_or}
 use Rattle.wasmi_types.specs.declared.value.RefType.{RefType}
-use Rattle.wasmi_typed.specs.declared.typed.TypedRawVal.{TypedRawVal}
-use Rattle.wasmi_typed.specs.declared.global.GlobalError.{GlobalError}
+use Rattle.wasmi_typed.specs.declared.{typed.TypedRawVal.TypedRawVal, global.GlobalError.GlobalError}
 use Rattle.wasmi_typed.specs.Global.{GlobalInstance, SetsGlobal}
 use Rattle.wasmi_store.specs.declared.table.element.SegmentError.{SegmentError}
 use Rattle.wasmi_store.specs.declared.table.element.SegmentError.TheVariants.{TooManyItems, OutOfSystemMemory}
@@ -15,7 +14,7 @@ use Rattle.wasmi_meter.specs.declared.fuel.FuelError.TheVariants.{FuelMeteringDi
 use Rattle.wasmi_meter.specs.Meter.{Meter, meter_set}
 use Rattle.wasmi_machine.specs.State.{State}
 
--- the segment of these items, unless there are too many, or memory is refused for some
+-- a call makes the segment of these items, unless there are too many, or memory is refused for some
 abbrev pub IsSegmentOf : RefType → List ℕ → Result SegmentValue SegmentError → Type 0
 IsSegmentOf ty items (Ok segment) = (length items ≤ most_items) × (segment ≡ record { ty = ty; items = items })
 IsSegmentOf ty items (Err TooManyItems) = most_items < length items

@@ -77,8 +77,7 @@ pub enum Call {
         value: RawVal,
     },
     /// Fills `len` bytes of a memory with a byte, from `dst` on: `Done`, or `Memory` with
-    /// `OutOfBoundsAccess` if they end past the memory, then `OutOfFuel`, which is tested also for
-    /// no byte.
+    /// `OutOfBoundsAccess` if they end past it, then `OutOfFuel`, which is tested also for no byte.
     FillMemory {
         memory: usize,
         dst: u64,
@@ -87,8 +86,7 @@ pub enum Call {
     },
     /// Copies `len` bytes of a memory, from `src` on, over those of another or of itself from `dst`
     /// on: `Done`, or `Memory` with `OutOfBoundsAccess` if a range ends past its memory, then
-    /// `OutOfFuel`, which is tested also for no byte. If ranges of one memory overlap, the old
-    /// bytes are copied.
+    /// `OutOfFuel`, which is tested also for no byte. If ranges overlap, the old bytes are copied.
     CopyMemory {
         dst_memory: usize,
         dst: u64,
@@ -155,9 +153,8 @@ pub enum Call {
         len: u64,
     },
     /// Fills `len` elements of a table with a reference, from `dst` on: `Done`, or `Table` with
-    /// `ElementTypeMismatch` if the reference isn't of the type of the elements, then
-    /// `FillOutOfBounds` if they end past the table, then `OutOfFuel`, which is tested also for no
-    /// element.
+    /// `ElementTypeMismatch` if the reference isn't of the elements' type, then `FillOutOfBounds`
+    /// if they end past the table, then `OutOfFuel`, which is tested also for no element.
     FillTable {
         table: usize,
         dst: u64,
@@ -374,8 +371,7 @@ pub enum Reply {
     NoSuch,
     /// There is no spare region; nothing was asked or changed.
     NoRegion,
-    /// Memory for a slot, for the bytes of a data segment or for the reply was refused; nothing was
-    /// asked or changed.
+    /// Memory for a slot, a segment's bytes or the reply was refused; nothing was asked or changed.
     NoRoom,
 }
 

@@ -5,8 +5,7 @@ ghost use Rattle.std.specs.Vec.{vec_capacity};
 use std::alloc::{AllocError, Global};
 use std::marker::Model;
 
-/// A data segment: the bytes that `Call::InitMemory` copies to a memory. Once they are dropped it
-/// has none.
+/// A data segment: the bytes that `Call::InitMemory` copies to a memory. Once dropped it has none.
 ///
 /// Core specification, data instances.
 #[derive(Debug, Drop)]

@@ -1,5 +1,7 @@
-//! What holds of all runs. These functions do nothing: each states a law as its contract, for any
-//! limiter, of which a run may also have none.
+//! What holds of all turns and runs, and is continued in `wasmi_laws`: runs in a row, what refusals
+//! keep, permissions, charges, validity, quotas and totals, lent regions, and runs that are equal.
+//! These functions do nothing: each states a law as its contract, for any limiter, of which a run
+//! may also have none.
 //!
 //! Own: upstream states no laws.
 ghost use Rattle.wasmi_meter.specs.Limiter.{optional_rules, unlimited_rules};
@@ -39,7 +41,6 @@ pub fn refusals_keep_contents<L: ResourceLimiter>()
 /// of a memory or a table is charged the bytes or elements that it writes. Nothing else is charged.
 /// The charge was left in the meter, and is taken from it. Without a limiter each question is
 /// permitted.
-#[tactic(auto, using(crate::proofs::ExchangeLemmas::growths_are_permitted, crate::proofs::ExchangeLemmas::run_growths_are_permitted))]
 pub fn growths_are_permitted<L: ResourceLimiter>()
     ensures turn { GrowsAsPermitted (optional_rules L.rules) }
     ensures run { RunsGrowAsPermitted (optional_rules L.rules) }
@@ -118,14 +119,12 @@ pub fn lent_runs_are_owned<L: ResourceLimiter>()
 
 /// A memory that is made in a spare region of at least its minimum is made as one with memory of
 /// its own, except for its room and the spare region.
-#[tactic(auto, using(crate::proofs::LentMemoryLemmas::creation_is_owned))]
 pub fn lent_creations_are_owned<L: ResourceLimiter>()
     ensures { LentCreationsAreOwned (optional_rules L.rules) }
 {}
 
 /// A growth of a lent memory for which its type and its region have room, and which can be paid
 /// for, takes no memory: the limiter alone can refuse it.
-#[tactic(auto, using(crate::proofs::LentMemoryLemmas::lent_growth_succeeds))]
 pub fn lent_growths_succeed<L: ResourceLimiter>()
     ensures { LentGrowthsSucceed (optional_rules L.rules) }
 {}

@@ -1,5 +1,4 @@
-//! A machine that runs lists of calls on metered WebAssembly memories and tables under a resource
-//! limiter.
+//! A machine that runs lists of calls on metered WebAssembly memories and tables under a limiter.
 #![tactic(auto)]
 
 mod calls;

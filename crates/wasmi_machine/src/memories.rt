@@ -1,5 +1,4 @@
-//! What calls do to the memories of a machine, by their indices, and the replies to calls on
-//! memories.
+//! What calls do to the memories of a machine, by their indices, and the replies to these calls.
 ghost use Rattle.std.specs.Prelude.{◌≡◌, ◌+◌, ◌≤◌, Some, length};
 ghost use Rattle.wasmi_meter.specs.Limiter.{optional_rules, lent_limiter, KeepsLoan};
 ghost use Rattle.wasmi_store.specs.Buffer.{Owned};
@@ -47,8 +46,7 @@ impl<'r> Slots<Memory<'r>> {
         }
     }
 
-    /// Makes a memory in the spare region, in a new slot, which is reserved before the limiter is
-    /// asked.
+    /// Makes a memory in the spare region, in a new slot, reserved before the limiter is asked.
     pub(crate) fn create_lent<L: ResourceLimiter>(
         &mut self,
         ty: MemoryType,
@@ -208,8 +206,8 @@ pub(crate) enum Stored {
     Lane(StoreLaneOp, V128),
 }
 
-/// A part of a list of bytes: its bounds are tested before the reply's buffer is allocated. No byte
-/// takes no memory.
+/// The reply to a read of a memory's bytes: the bounds are tested before its buffer is allocated.
+/// No byte takes no memory.
 pub(crate) fn bytes_reply(alloc: Global, memory: &[u8], offset: usize, len: usize) -> Reply
     ensures { ReadsBytes (at memory.now offset len) result }
 {

@@ -1,5 +1,4 @@
-//! Memory for replies that is kept from run to run, and the error of a run for which it is too
-//! small.
+//! Memory for replies, kept from run to run, and the error of a run for which it is too small.
 ghost use Rattle.std.specs.Prelude.{◌≡◌, ◌<◌, ◌==◌, ◌++◌, [], ◌∷◌, IfOk, Some, length};
 ghost use Rattle.wasmi_machine.specs.Replies.{too_many_calls_text};
 
@@ -21,10 +20,7 @@ impl Model for Replies {
 
     ghost Value = { RepliesValue };
 
-    ghost view = { λ r. record {
-      items = r.replies.items;
-      capacity = vec_capacity r.replies;
-    } };
+    ghost view = { λ r. record { items = r.replies.items; capacity = vec_capacity r.replies } };
 }
 
 impl Replies {

@@ -69,8 +69,7 @@ impl<'r> Machine<'r> {
 ///
 /// # Errors
 ///
-/// `AllocError` if memory for the replies, which is allocated first, is refused; then nothing has
-/// happened.
+/// `AllocError` if memory for the replies, allocated first, is refused; then nothing has happened.
 #[tactic(auto, using(std::proofs::lemmas::Grind::common_steps))]
 pub fn run<L: ResourceLimiter>(
     machine: &mut Machine,
@@ -93,8 +92,7 @@ pub fn run<L: ResourceLimiter>(
     Ok(replies)
 }
 
-/// Executes calls, as `run`, but borrows the limiter for this run alone, so that its state
-/// afterwards is known.
+/// Executes calls, as `run`, but only borrows the limiter, so its state afterwards is known.
 ///
 /// # Errors
 ///
@@ -143,8 +141,7 @@ pub fn run_reserving<L: Reserving>(
 ///
 /// # Errors
 ///
-/// `TooManyCalls` if there are more calls than the capacity of `replies`; then nothing has
-/// happened.
+/// `TooManyCalls` for more calls than the capacity of `replies`; then nothing has happened.
 pub fn run_into<L: ResourceLimiter>(
     machine: &mut Machine,
     calls: &[Call],
@@ -173,8 +170,7 @@ pub fn run_into<L: ResourceLimiter>(
     Ok(())
 }
 
-/// Executes calls, as `run_into`, but borrows the limiter for this run alone, so that its state
-/// afterwards is known.
+/// Executes calls, as `run_into`, but only borrows the limiter, so its state afterwards is known.
 ///
 /// # Errors
 ///

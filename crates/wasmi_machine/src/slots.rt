@@ -215,11 +215,8 @@ impl<T> Model for ReservedList<T> {
 
     ghost Value = { ReservedListValue T };
 
-    ghost view = { λ list. record {
-      items = list.items.items;
-      reserved = list.reserved;
-      capacity = vec_capacity list.items;
-    } };
+    ghost view = { λ list. record
+        { items = list.items.items; reserved = list.reserved; capacity = vec_capacity list.items } };
 
     ghost invariant = { λ list. list.reserved ≤ vec_capacity list.items };
 }

@@ -1,5 +1,4 @@
-//! The store of a machine: what was made, the registers and the meter, and what each call does to
-//! them.
+//! The store of a machine: what was made, registers and meter, and what each call does to them.
 ghost use Rattle.std.specs.Prelude.{◌≡◌, OnOk, OnErr};
 ghost use Rattle.wasmi_meter.specs.Limiter.{optional_rules, lent_limiter, KeepsLoan};
 ghost use Rattle.wasmi_machine.specs.Effects.{reply_or_no_such};
@@ -326,8 +325,7 @@ impl<'r> MachineStore<'r> {
         }
     }
 
-    /// Executes one load or store of a vector, which doesn't reach the limiter: only the contract
-    /// names `L`.
+    /// Executes one load or store of a vector, which asks no limiter: only the contract names `L`.
     fn step_vector_access<L: ResourceLimiter>(&mut self, call: &Call) -> Option<Reply>
         requires subject { subject_of call.now ≡ VectorAccesses }
         ensures step { RepliesWithoutLimiter

@@ -1,6 +1,5 @@
-//! The element segments, data segments and globals of a machine, by their indices. These are
-//! functions of one list of the store each, so that what else the store has stays out of their
-//! contracts.
+//! The element segments, data segments and globals of a machine, by their indices: functions of one
+//! list of the store each, so that what else the store has stays out of their contracts.
 ghost use Rattle.std.specs.Prelude.{◌≡◌, ◌⊎◌, ◌<◌, ◌≤◌, length};
 ghost use Rattle.wasmi_machine.specs.Effects.{AddsItem};
 ghost use Rattle.wasmi_machine.specs.ValueEffects.{CreatesSegment, DropsDataAt, DropsItemsAt, SetsGlobalAt, GetsGlobalAt};
@@ -89,7 +88,7 @@ pub(crate) fn create_global(
     add_item(globals, Global::new(value, ty))
 }
 
-/// Adds an item to a list, unless memory for its place is refused.
+/// Adds a data segment or a global to its list, unless memory for its place is refused.
 fn add_item<T: Drop>(items: &mut ReservedList<T>, item: T) -> Reply
     ensures made { AddsItem (items.old.reserved ≤ length items.old.items) item items.old.items result
         items.new.items }

@@ -2,13 +2,10 @@
 -- stays within the caps, also after a denial, a notice or a release.
 use Rattle.std.proofs.Common.{◌≡◌, ℕ, ◌+◌, ◌-◌, ◌≤◌, Bool, true, Option, Some, None, Ok, inl, inr, ap, ◌∙◌, arith, refl}
 use Rattle.std.proofs.lemmas.Bool.{cases_lt}
-use Rattle.wasmi_meter.specs.declared.quota.Holdings.{Holdings}
-use Rattle.wasmi_meter.specs.declared.limiter.Kind.{Kind}
+use Rattle.wasmi_meter.specs.declared.{quota.Holdings.Holdings, limiter.Kind.Kind, quota.Amounts.Amounts, quota.Quota.Quota}
 use Rattle.wasmi_meter.specs.declared.limiter.Kind.TheVariants.{Bytes, Elements}
 use Rattle.wasmi_meter.specs.Capped.{Capped, held_together, IsWithin, Asked, Noticed, amount_held, with_more, with_less, without_last_of, HoldsTheSame, Reserves, GivesBack, Takes, Releases, capped_quota, holdings, IsWithinCaps}
 use Rattle.wasmi_meter.specs.Limiter.{Question, Answer, IsDenial, Failure, NoticeAnswer, kind_of}
-use Rattle.wasmi_meter.specs.declared.quota.Amounts.{Amounts}
-use Rattle.wasmi_meter.specs.declared.quota.Quota.{Quota}
 
 -- what is to be taken leaves no choice of whether it is, nor of what is held after it
 takes_unique : {others cap : ℕ} {h : Holdings} {kind : Kind} {n : ℕ} {taken taken' : Bool} {a b : Holdings}

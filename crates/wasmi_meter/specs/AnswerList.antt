@@ -35,8 +35,7 @@ pub record TakesAnswer (list : AnswersAhead) (answer : Answer) (list' : AnswersA
   pub answered : answer ≡ answer_by (next_answer list)
   pub taken : list' ≡ record { ahead = drop 1 list.ahead; last = next_answer list }
 
--- the rules of such a limiter, whatever is asked: a notice is answered as the last question's answer says, and takes
--- none
+-- the rules of such a limiter, whatever is asked: a notice is answered as the last answer says, and takes none
 abbrev pub answer_list_rules : Rules AnswersAhead
 answer_list_rules = record {
   asked = λ list question answer list'. TakesAnswer list answer list';

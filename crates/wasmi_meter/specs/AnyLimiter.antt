@@ -1,10 +1,8 @@
 -- A limiter of one of three kinds: its rules, and the quota and the caps that it has, if it is a quota.
 use Rattle.std.specs.Prelude.{◌≡◌, Option, Some, None, Ok, true}
 use Rattle.std.specs.Option.{option_map}
-use Rattle.wasmi_meter.specs.declared.quota.Amounts.{Amounts}
-use Rattle.wasmi_meter.specs.declared.any_limiter.AnyLimiter.{AnyLimiter}
+use Rattle.wasmi_meter.specs.declared.{quota.Amounts.Amounts, any_limiter.AnyLimiter.AnyLimiter, quota.Quota.Quota}
 use Rattle.wasmi_meter.specs.declared.any_limiter.AnyLimiter.TheVariants as limiter
-use Rattle.wasmi_meter.specs.declared.quota.Quota.{Quota}
 use Rattle.wasmi_meter.specs.Capped.{amounts_of, cap_of, quota_rules}
 use Rattle.wasmi_meter.specs.AnswerList.{AnswersAhead, answer_list_rules}
 use Rattle.wasmi_meter.specs.Limiter.{Rules}

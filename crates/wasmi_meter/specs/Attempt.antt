@@ -1,5 +1,6 @@
--- An attempt, which is one creation or growth under a limiter and a meter: what is asked and paid, what is due and
--- whether that is left, how it can end, and which answer, charge and value each end means.
+-- An attempt, which is one creation or growth of a value with its meter and its limiter: what it begins with, what is
+-- asked and paid, what is due and whether that is left, how it can end, and which answer, charge and value each end
+-- means.
 use Rattle.std.specs.Prelude.{◌≡◌, ℕ, Bool, true, nat_le, is_none, ◌&&◌, if◌then◌else◌, MatchBool, Option, Some, None, Result, Ok, Err}
 use Rattle.std.specs.Option.{option_map}
 use Rattle.wasmi_meter.specs.declared.fuel.CustomFuelCosts.{CustomFuelCosts}
@@ -40,8 +41,7 @@ pub record Request (V E : Type 0) : Type 1 where
   -- the value once it has grown
   pub grown : V
 
--- the four ends: refused unasked, denied by the limiter, met, or failed after the permission, with the answer to the
--- notice
+-- the four ends: unasked, denied by the limiter, met, or failed after the permission, with the answer to the notice
 pub data AttemptOutcome (E : Type 0) : Type 0 where
   Unasked : E → AttemptOutcome E
   Denied : Answer → AttemptOutcome E

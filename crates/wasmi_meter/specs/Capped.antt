@@ -1,12 +1,9 @@
 -- Limiters that count what they permitted: amounts by kind, what is held, taken, given back and released, limiters with
 -- caps and their rules, and quotas.
 use Rattle.std.specs.Prelude.{ℕ, ◌≡◌, ◌+◌, ◌-◌, ◌≤◌, ◌<◌, Option, Some, None, Ok, Bool, true, false}
-use Rattle.wasmi_meter.specs.declared.quota.Amounts.{Amounts}
-use Rattle.wasmi_meter.specs.declared.limiter.Kind.{Kind}
+use Rattle.wasmi_meter.specs.declared.{quota.Amounts.Amounts, limiter.Kind.Kind, quota.Holdings.Holdings, quota.Quota.Quota}
 use Rattle.wasmi_meter.specs.declared.limiter.Kind.TheVariants.{Bytes, Elements}
-use Rattle.wasmi_meter.specs.declared.quota.Holdings.{Holdings}
 use Rattle.wasmi_meter.specs.Limiter.{Question, Answer, Failure, NoticeAnswer, kind_of, Rules}
-use Rattle.wasmi_meter.specs.declared.quota.Quota.{Quota}
 
 -- the amount of a kind
 abbrev pub amount_of : Amounts → Kind → ℕ

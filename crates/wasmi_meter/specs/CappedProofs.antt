@@ -1,5 +1,4 @@
--- A limiter with caps reserves what it permits and gives back at a notice: the proofs of these laws of a reserving
--- limiter.
+-- A limiter with caps is a reserving one: it reserves what it permits, and gives back at a notice.
 use Rattle.std.specs.Prelude.{◌+◌, ◌-◌}
 use Rattle.std.proofs.Common.{inl, inr, refl}
 use Rattle.std.proofs.lemmas.Bool.{cases_lt}

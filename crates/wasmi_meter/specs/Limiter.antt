@@ -1,14 +1,10 @@
 -- What a limiter is asked and told and what it answers, its rules, a limiter that may be absent, and the loan of a
 -- limiter by a reference to one.
 use Rattle.std.specs.Prelude.{◌≡◌, ℕ, Option, Some, None, Result, Ok, Bool, true}
-use Rattle.wasmi_meter.specs.declared.limiter.Kind.{Kind}
+use Rattle.wasmi_meter.specs.declared.{limiter.Kind.Kind, error.LimiterError.LimiterError, error.MemoryError.MemoryError, error.TableError.TableError, limiter.LimiterRef.LimiterRef}
 use Rattle.wasmi_meter.specs.declared.limiter.Kind.TheVariants.{Bytes, Elements}
-use Rattle.wasmi_meter.specs.declared.error.LimiterError.{LimiterError}
-use Rattle.wasmi_meter.specs.declared.error.MemoryError.{MemoryError}
-use Rattle.wasmi_meter.specs.declared.error.TableError.{TableError}
 use Rattle.std.specs.Option.{option_copied_mut}
 use Rattle.std.specs.Borrow.{MutBor, LendsIf, Fml, RattleType}
-use Rattle.wasmi_meter.specs.declared.limiter.LimiterRef.{LimiterRef}
 use Rattle.wasmi_meter.specs.contracts.limiter.LimiterRef.{the_row}
 
 -- May this grow from current to desired, where maximum is the most that its type allows?

@@ -4,12 +4,9 @@ use Rattle.std.specs.Prelude.{◌≡◌, ◌⊎◌, ℕ, ◌-◌, ◌≤◌, ◌
 use Rattle.std.proofs.Common.{inl, inr}
 use Rattle.std.specs.Borrow.{MutBor, Bor}
 use Rattle.std.specs.Option.{option_copied_mut, option_map, unwrap_or}
-use Rattle.wasmi_meter.specs.declared.fuel.FuelError.{FuelError}
+use Rattle.wasmi_meter.specs.declared.{fuel.FuelError.FuelError, fuel.CustomFuelCosts.CustomFuelCosts, error.TableError.TableError, fuel.FuelCostsProvider.FuelCostsProvider}
 use Rattle.wasmi_meter.specs.declared.fuel.FuelError.TheVariants.{OutOfFuel}
-use Rattle.wasmi_meter.specs.declared.fuel.CustomFuelCosts.{CustomFuelCosts}
-use Rattle.wasmi_meter.specs.declared.error.TableError.{TableError}
 use Rattle.std.specs.Fn.{Once, FnOnceReturnsAt}
-use Rattle.wasmi_meter.specs.declared.fuel.FuelCostsProvider.{FuelCostsProvider}
 use Rattle.wasmi_meter.specs.declared.fuel.FuelError.TheVariants as fuel
 use Rattle.wasmi_meter.specs.declared.error.TableError.TheVariants as table
 

@@ -1,14 +1,10 @@
--- What the errors of fuel meters, limiters, linear memories and tables print: words, and the number after them, if
--- there is one.
+-- The texts of errors of fuel meters, limiters, memories and tables: words, and the number after them, if any.
 use Rattle.std.specs.Prelude.{ℕ, List, ◌++◌, Option, None, Some, codes}
 use Rattle.std.specs.Fmt.{decimal}
-use Rattle.wasmi_meter.specs.declared.error.LimiterError.{LimiterError}
+use Rattle.wasmi_meter.specs.declared.{error.LimiterError.LimiterError, error.MemoryError.MemoryError, error.TableError.TableError, fuel.FuelError.FuelError}
 use Rattle.wasmi_meter.specs.declared.error.LimiterError.TheVariants as limiter
-use Rattle.wasmi_meter.specs.declared.error.MemoryError.{MemoryError}
 use Rattle.wasmi_meter.specs.declared.error.MemoryError.TheVariants as memory
-use Rattle.wasmi_meter.specs.declared.error.TableError.{TableError}
 use Rattle.wasmi_meter.specs.declared.error.TableError.TheVariants as table
-use Rattle.wasmi_meter.specs.declared.fuel.FuelError.{FuelError}
 use Rattle.wasmi_meter.specs.declared.fuel.FuelError.TheVariants as fuel
 
 -- the text of an error: its words, and the number after them, if there is one

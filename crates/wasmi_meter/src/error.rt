@@ -110,8 +110,7 @@ pub enum TableError {
     MaximumSizeOverflow,
     /// The limiter denied a creation, or returned an error to a question or a notice.
     ResourceLimiterDeniedAllocation,
-    /// A growth above the greatest number of elements or the maximum, or one that the limiter
-    /// denies.
+    /// A growth above the greatest number of elements or the maximum, or that the limiter denies.
     GrowOutOfBounds,
     /// An initialization that ends past the table or the element segment.
     InitOutOfBounds,

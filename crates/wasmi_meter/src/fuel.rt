@@ -1,5 +1,4 @@
-//! Fuel meters, what work costs in fuel, which a host may choose, and why a call on a meter is
-//! refused.
+//! Fuel meters, what work costs, which a host may choose, and why a call on a meter is refused.
 ghost use Rattle.std.specs.Prelude.{◌≡◌, ℕ, ◌-◌, Option, Some, None, Result, Ok, Err, IsSome, if◌then◌else◌};
 ghost use Rattle.wasmi_meter.specs.declared.fuel.CustomFuelCosts.{CustomFuelCosts};
 ghost use Rattle.wasmi_meter.specs.Meter.{costs_of, cut_product, copy_cost, Meter, amount_left, meter_set, ConsumesFuel, default_costs, Computes};
@@ -310,8 +309,7 @@ impl Fuel {
         self.consume_fuel_unchecked(delta)
     }
 
-    /// Consumes the fuel that `f` computes from the costs if the meter is on. If it is off, `f`
-    /// isn't called.
+    /// Consumes the fuel that `f` computes from the costs; if the meter is off, `f` isn't called.
     ///
     /// # Errors
     ///

@@ -161,16 +161,14 @@ pub trait LimiterByKind {
     ghost kind_rules: { Rules Self };
 
     /// May something of this kind grow from `current` to `desired`, in bytes or elements? The
-    /// answers have the meaning that they have for a [`ResourceLimiter`]: `Ok(true)` permits, and
-    /// nothing else does.
+    /// answers mean what they mean for a [`ResourceLimiter`]: only `Ok(true)` permits.
     fn growing(&mut self, kind: Kind, current: usize, desired: usize) -> Result<bool, LimiterError>
         requires grows { current ≤ desired }
         ensures asked { (maximum : Option ℕ) → kind_rules.asked self.old
             (record { kind = kind; current = current; desired = desired; maximum = maximum })
             result self.new };
 
-    /// Something of this kind was permitted to grow and did not. After `Ok(())` the call returns
-    /// its error.
+    /// A permitted growth of this kind failed. After `Ok(())` the call returns its error.
     fn grow_failed(&mut self, kind: Kind) -> Result<(), LimiterError>
         ensures { (failure : Failure) → kind_of failure ≡ kind
             → kind_rules.noticed self.old failure result self.new };

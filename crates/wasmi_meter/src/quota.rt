@@ -31,8 +31,7 @@ impl Amounts {
     }
 }
 
-/// What a limiter with caps holds of each kind, and the last difference that it took and didn't
-/// give back.
+/// What a limiter with caps holds of each kind, and the last difference taken and not given back.
 #[derive(Clone, Copy, Debug)]
 pub struct Holdings {
     held: Amounts,
@@ -123,8 +122,7 @@ impl Holdings {
 /// A limiter that holds what it permitted, in bytes and in elements, until it is notified that what
 /// it permitted failed. It isn't notified of what is dropped.
 pub trait Reserving: ResourceLimiter {
-    /// What it holds of each kind, and the last difference that it permitted and that wasn't given
-    /// back.
+    /// What it holds of each kind, and the last difference it permitted that wasn't given back.
     ghost holdings: { Self → Holdings };
 
     /// The bytes that it permitted and that weren't given back.

@@ -77,7 +77,7 @@ module _ (N : Record) (bare : Bare N.parts) (name_of : N.D → List ℕ) where
   abbrev pub entries : List (NameEntry N.D)
   entries = entries_of N.parts bare N.make name_of
 
-  -- what is found is the op that was asked for
+  -- what is found under a name is the variant that was asked for
   found_is : (found : Option N.D) (op : N.D) → is_found found op ≡ true → found ≡ Some op
   found_is None op e = absurd cc
   found_is (Some found) op e = ap (λ it. Some it) (same_true (declared N) bare found op e)

@@ -1,5 +1,4 @@
--- The words of a line, the numbers and limits that they write, and what is accepted of a line and what is a bad
--- command.
+-- The words of a line, the numbers and limits that they write, and what is accepted of a line or a bad command.
 use Rattle.std.specs.Prelude.{ℕ, List, [], filter, length, map, nat_lt, slice_index_or, ◌==◌, ◌≡◌, ◌<◌, ◌^◌, Option, None, Some, codes, Result, Ok, Err, ⊤}
 use Rattle.std.specs.List.{AllZip, slice_split}
 use Rattle.std.specs.Borrow.{Bor}

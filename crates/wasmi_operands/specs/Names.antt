@@ -1,14 +1,11 @@
 -- Lists of names and what a name stands for; the words of types, mutability, references, a limiter's answers, and
 -- instructions, also those on a lane; and the words of the lanes of a shuffle.
 use Rattle.std.specs.Prelude.{◌≡◌, ℕ, List, [], ◌∷◌, Option, None, Some, cond, bytes_eq, codes, length}
-use Rattle.wasmi_types.specs.declared.index_ty.IndexType.{IndexType}
-use Rattle.wasmi_types.specs.declared.value.RefType.{RefType}
+use Rattle.wasmi_types.specs.declared.{index_ty.IndexType.IndexType, value.RefType.RefType, value.ValType.ValType}
 use Rattle.wasmi_types.specs.declared.value.RefType.TheVariants.{Func, Extern}
-use Rattle.wasmi_types.specs.declared.value.ValType.{ValType}
 use Rattle.wasmi_types.specs.declared.value.ValType.TheVariants.{I32, I64, F32, F64, V128, FuncRef, ExternRef}
-use Rattle.wasmi_typed.specs.declared.global.Mutability.{Mutability}
+use Rattle.wasmi_typed.specs.declared.{global.Mutability.Mutability, typed_ref.TypedRawRef.TypedRawRef}
 use Rattle.wasmi_typed.specs.declared.global.Mutability.TheVariants.{Const, Var}
-use Rattle.wasmi_typed.specs.declared.typed_ref.TypedRawRef.{TypedRawRef}
 use Rattle.wasmi_operands.specs.LineWords.{WritesNumber, LineWords, WritesEach}
 use Rattle.wasmi_meter.specs.declared.answer_list.LimiterAnswer.{LimiterAnswer}
 use Rattle.wasmi_meter.specs.declared.answer_list.LimiterAnswer.TheVariants.{Permit, Deny, Error, Complain}

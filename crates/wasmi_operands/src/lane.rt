@@ -1,4 +1,4 @@
-//! The instructions on one lane, by two words: their names, and the lane's index.
+//! The instructions on one lane, by two words: a name, and the lane's index.
 #![tactic(auto, using(crate::proofs::OpNamesLemmas::lane_ops))]
 
 ghost use Rattle.wasmi_operands.specs.LineWords.{Accepts};

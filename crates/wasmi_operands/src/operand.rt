@@ -1,6 +1,6 @@
 //! The words of a line, and what they write: numbers, types, references, a limiter's answers and
-//! the names of instructions, by one word, by as many as a command has, or as a list.
-#![tactic(auto, using(crate::proofs::OpNamesLemmas::op_names))]
+//! the names of instructions, also of those on one lane, by one word, by as many as a command has,
+//! or as a list.
 
 ghost use Rattle.std.specs.Char.{digit_value};
 ghost use Rattle.std.specs.Int.{IsInRange};
@@ -223,6 +223,7 @@ impl Operand for LimiterAnswer {
 impl Operand for LoadOp {
     ghost writes = { IsName load_name };
 
+    #[tactic(auto, using(crate::proofs::OpNamesLemmas::op_names))]
     fn from_word(word: &str) -> Result<Self, LineError> {
         op_named(&LOADS, word)
     }
@@ -231,6 +232,7 @@ impl Operand for LoadOp {
 impl Operand for StoreOp {
     ghost writes = { IsName store_name };
 
+    #[tactic(auto, using(crate::proofs::OpNamesLemmas::op_names))]
     fn from_word(word: &str) -> Result<Self, LineError> {
         op_named(&STORES, word)
     }
@@ -239,6 +241,7 @@ impl Operand for StoreOp {
 impl Operand for MakeOp {
     ghost writes = { IsName make_name };
 
+    #[tactic(auto, using(crate::proofs::OpNamesLemmas::op_names))]
     fn from_word(word: &str) -> Result<Self, LineError> {
         op_named(&MAKES, word)
     }
@@ -247,6 +250,7 @@ impl Operand for MakeOp {
 impl Operand for UnaryOp {
     ghost writes = { IsName unary_name };
 
+    #[tactic(auto, using(crate::proofs::OpNamesLemmas::op_names))]
     fn from_word(word: &str) -> Result<Self, LineError> {
         op_named(&UNARIES, word)
     }
@@ -255,6 +259,7 @@ impl Operand for UnaryOp {
 impl Operand for BinaryOp {
     ghost writes = { IsName binary_name };
 
+    #[tactic(auto, using(crate::proofs::OpNamesLemmas::op_names))]
     fn from_word(word: &str) -> Result<Self, LineError> {
         op_named(&BINARIES, word)
     }
@@ -263,6 +268,7 @@ impl Operand for BinaryOp {
 impl Operand for TernaryOp {
     ghost writes = { IsName ternary_name };
 
+    #[tactic(auto, using(crate::proofs::OpNamesLemmas::op_names))]
     fn from_word(word: &str) -> Result<Self, LineError> {
         op_named(&TERNARIES, word)
     }
@@ -271,6 +277,7 @@ impl Operand for TernaryOp {
 impl Operand for ShiftOp {
     ghost writes = { IsName shift_name };
 
+    #[tactic(auto, using(crate::proofs::OpNamesLemmas::op_names))]
     fn from_word(word: &str) -> Result<Self, LineError> {
         op_named(&SHIFTS, word)
     }
@@ -279,6 +286,7 @@ impl Operand for ShiftOp {
 impl Operand for TestOp {
     ghost writes = { IsName test_name };
 
+    #[tactic(auto, using(crate::proofs::OpNamesLemmas::op_names))]
     fn from_word(word: &str) -> Result<Self, LineError> {
         op_named(&TESTS, word)
     }
@@ -287,6 +295,7 @@ impl Operand for TestOp {
 impl Operand for ExtractKind {
     ghost writes = { IsName extract_name };
 
+    #[tactic(auto, using(crate::proofs::OpNamesLemmas::op_names))]
     fn from_word(word: &str) -> Result<Self, LineError> {
         op_named(&EXTRACTIONS, word)
     }
@@ -295,6 +304,7 @@ impl Operand for ExtractKind {
 impl Operand for ReplaceKind {
     ghost writes = { IsName replace_name };
 
+    #[tactic(auto, using(crate::proofs::OpNamesLemmas::op_names))]
     fn from_word(word: &str) -> Result<Self, LineError> {
         op_named(&REPLACEMENTS, word)
     }
@@ -303,6 +313,7 @@ impl Operand for ReplaceKind {
 impl Operand for VectorLoadOp {
     ghost writes = { IsName vector_load_name };
 
+    #[tactic(auto, using(crate::proofs::OpNamesLemmas::op_names))]
     fn from_word(word: &str) -> Result<Self, LineError> {
         op_named(&VECTOR_LOADS, word)
     }
@@ -311,6 +322,7 @@ impl Operand for VectorLoadOp {
 impl Operand for LoadLaneKind {
     ghost writes = { IsName load_lane_name };
 
+    #[tactic(auto, using(crate::proofs::OpNamesLemmas::op_names))]
     fn from_word(word: &str) -> Result<Self, LineError> {
         op_named(&LANE_LOADS, word)
     }
@@ -319,6 +331,7 @@ impl Operand for LoadLaneKind {
 impl Operand for StoreLaneKind {
     ghost writes = { IsName store_lane_name };
 
+    #[tactic(auto, using(crate::proofs::OpNamesLemmas::op_names))]
     fn from_word(word: &str) -> Result<Self, LineError> {
         op_named(&LANE_STORES, word)
     }

@@ -5,14 +5,7 @@ use Rattle.wasmi_types.specs.Numbers.{w8, w16, w32, w64, le_bytes}
 use Rattle.std.specs.Int.{cast_unsigned}
 use Rattle.wasmi_raw.specs.declared.raw.RawVal.{RawVal}
 use Rattle.wasmi_raw.specs.RawVal.{raw_of, signed_in}
-use Rattle.wasmi_ops.specs.declared.vector.ExtractOp.{ExtractOp}
-use Rattle.wasmi_ops.specs.declared.vector.ReplaceOp.{ReplaceOp}
-use Rattle.wasmi_ops.specs.declared.vector.LoadLaneOp.{LoadLaneOp}
-use Rattle.wasmi_ops.specs.declared.vector.StoreLaneOp.{StoreLaneOp}
-use Rattle.wasmi_ops.specs.declared.vector.ExtractKind.{ExtractKind}
-use Rattle.wasmi_ops.specs.declared.vector.ReplaceKind.{ReplaceKind}
-use Rattle.wasmi_ops.specs.declared.vector.LoadLaneKind.{LoadLaneKind}
-use Rattle.wasmi_ops.specs.declared.vector.StoreLaneKind.{StoreLaneKind}
+use Rattle.wasmi_ops.specs.declared.{vector.ExtractOp.ExtractOp, vector.ReplaceOp.ReplaceOp, vector.LoadLaneOp.LoadLaneOp, vector.StoreLaneOp.StoreLaneOp, vector.ExtractKind.ExtractKind, vector.ReplaceKind.ReplaceKind, vector.LoadLaneKind.LoadLaneKind, vector.StoreLaneKind.StoreLaneKind}
 use Rattle.wasmi_lanewise.specs.VectorTable as vector
 use Rattle.wasmi_ops.specs.declared.vector.ExtractOp.TheVariants as extract
 use Rattle.wasmi_ops.specs.declared.vector.ReplaceOp.TheVariants as replace

@@ -7,16 +7,15 @@ use Rattle.wasmi_raw.specs.RawVal.{raw_of}
 use mir.Val.{bits}
 use Rattle.wasmi_types.specs.Numbers.{le_bytes}
 use Rattle.wasmi_access.specs.LoadStore.{loaded}
-use Rattle.wasmi_ops.specs.declared.load_store.LoadOp.{LoadOp}
-use Rattle.wasmi_ops.specs.declared.load_store.StoreOp.{StoreOp}
+use Rattle.wasmi_ops.specs.declared.{load_store.LoadOp.LoadOp, load_store.StoreOp.StoreOp}
 use Rattle.wasmi_ops.specs.declared.load_store.LoadOp.TheVariants as load
 use Rattle.wasmi_ops.specs.declared.load_store.StoreOp.TheVariants as store
 
--- the raw value of a signed number of a width
+-- the raw value of a signed number of a width, as a load or another instruction gives it
 abbrev pub signed_raw : Width → ℤ → RawVal
 signed_raw w z = raw_of (cast_unsigned w z)
 
--- an answer as a raw value; a trap stays
+-- what a load, or another instruction, answers as a raw value; a trap stays
 abbrev pub as_raw : {A : Type 0} → (A → RawVal) → Result A TrapCode → Result RawVal TrapCode
 as_raw raw (Ok value) = Ok (raw value)
 as_raw raw (Err trap) = Err trap

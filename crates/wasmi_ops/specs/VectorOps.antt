@@ -1,19 +1,13 @@
 -- The vector instructions but for those on one lane: a row for each, its name and what it gives.
 use Rattle.std.specs.Prelude.{ℕ, List, codes, Result}
 use Rattle.wasmi_types.specs.Numbers.{w8, w16, w32, w64}
-use Rattle.wasmi_ops.specs.declared.vector.UnaryOp.{UnaryOp}
-use Rattle.wasmi_ops.specs.declared.vector.BinaryOp.{BinaryOp}
-use Rattle.wasmi_ops.specs.declared.vector.TernaryOp.{TernaryOp}
-use Rattle.wasmi_ops.specs.declared.vector.ShiftOp.{ShiftOp}
+use Rattle.wasmi_ops.specs.declared.{vector.UnaryOp.UnaryOp, vector.BinaryOp.BinaryOp, vector.TernaryOp.TernaryOp, vector.ShiftOp.ShiftOp, vector.TestOp.TestOp, vector.MakeOp.MakeOp, vector.VectorLoadOp.VectorLoadOp}
 use Rattle.std.specs.Int.{from_bool}
 use Rattle.wasmi_raw.specs.declared.raw.RawVal.{RawVal}
 use Rattle.wasmi_raw.specs.RawVal.{raw_of, signed_in, unsigned_in}
-use Rattle.wasmi_ops.specs.declared.vector.TestOp.{TestOp}
-use Rattle.wasmi_ops.specs.declared.vector.MakeOp.{MakeOp}
 use Rattle.wasmi_types.specs.declared.trap.TrapCode.{TrapCode}
 use Rattle.wasmi_access.specs.LoadStore.{loaded}
 use Rattle.wasmi_lanes.specs.Vector.{splat_of}
-use Rattle.wasmi_ops.specs.declared.vector.VectorLoadOp.{VectorLoadOp}
 use Rattle.wasmi_lanewise.specs.VectorTable as vector
 use Rattle.wasmi_simd.specs.WideningTable as widening
 use Rattle.wasmi_ops.specs.declared.vector.UnaryOp.TheVariants as unary

@@ -27,7 +27,7 @@ pub enum LoadOp {
 }
 
 macro_rules! loads {
-    ($make:ident! $($with:tt)*) => { $make! { [$($with)*] accesses [?.into()] {
+    ($make:ident! $($with:tt)*) => { $make! { [$($with)*] accesses [.map(RawVal::from)] {
         I32Load8S i32_load8_s, I32Load8U i32_load8_u,
         I32Load16S i32_load16_s, I32Load16U i32_load16_u,
         I64Load8S i64_load8_s, I64Load8U i64_load8_u,
@@ -59,7 +59,7 @@ impl LoadOp {
     fn load_front(self, bytes: &[u8]) -> Result<RawVal, TrapCode>
         ensures { result ≡ loaded_raw self bytes.now 0 }
     {
-        Ok(loads!(calls! self(bytes, 0, 0)))
+        loads!(calls! self(bytes, 0, 0))
     }
 }
 

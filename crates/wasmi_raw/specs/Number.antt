@@ -13,8 +13,7 @@ abbrev pub number_of_bits : Bool → Width → ℕ → ℤ
 number_of_bits true w n = cast_signed w n
 number_of_bits false w n = pos n
 
--- a type's values and their numbers: `number` gives the number of a value, `of_number` the value of a number of the
--- type
+-- a type's values and their numbers: `number` gives that of a value, `of_number` the value of a number of the type
 pub record AreNumbers {Value : Type 0} (is_signed : Bool) (width : Width) (number : Value → ℤ)
     (of_number : ℤ → Value) : Type 0 where
   pub of_its_number : (value : Value) → of_number (number value) ≡ value

@@ -1,5 +1,4 @@
-//! Raw values: what a register, a local or a global variable of WebAssembly holds, whatever its
-//! type.
+//! Raw values: what a register, local or global variable of WebAssembly holds, whatever its type.
 #![tactic(auto)]
 
 mod convert;

@@ -49,8 +49,7 @@ pub trait ReadAs<T> {
 ///
 /// The crate has no such trait. There too a `NonZero` can be written, and its integer is read.
 pub trait ReadBack {
-    /// The type that is read after a `Self` was written: of a `NonZero` its integer type, else
-    /// `Self`.
+    /// The type that is read after a `Self` was written: a `NonZero`'s integer type, else `Self`.
     type Read;
 
     /// The value that is read after the `Self` was written.

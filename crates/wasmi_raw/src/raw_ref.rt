@@ -1,4 +1,5 @@
-//! Raw references: what an element of a table holds, whatever its type, and its conversions.
+//! Raw references: what an element of a table holds, whatever its type, its conversions, and how it
+//! is read and written.
 
 ghost use Rattle.std.specs.Prelude.{◌≡◌, ◌↔◌, ℕ, IsTrue};
 ghost use Rattle.std.specs.Int.{w32};

@@ -1,5 +1,5 @@
 //! Reading and writing a raw value, and what is read after a write: the implementations of the
-//! traits, type by type.
+//! traits, type by type, except for references.
 
 ghost use Rattle.std.specs.Int.{w8, w16, w32, w64, cast_unsigned, from_bool};
 ghost use Rattle.std.specs.Int.NonZero.{non_zero_i8_get, non_zero_i16_get, non_zero_i32_get, non_zero_i64_get, non_zero_u8_get, non_zero_u16_get, non_zero_u32_get, non_zero_u64_get};

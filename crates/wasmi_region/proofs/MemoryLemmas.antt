@@ -39,11 +39,11 @@ module _ (ty : MemoryTypeValue) (region : List ℕ) (size : ℕ) (within : size 
   abbrev x : MemoryValue
   x = memory_in ty region size
 
-  -- the memory has so many bytes
+  -- the memory on a region has so many bytes
   pub sized : length x.bytes ≡ size
   sized = length-take-le size region within
 
-  -- the memory has so many pages
+  -- the memory on a region has so many pages
   pub paged : pages_of x ≡ size / page_bytes ty.page
   paged = ap (λ (n : ℕ). n / page_bytes ty.page) sized
 

@@ -1,5 +1,4 @@
--- What holds of all tables on regions: what the limiter alone can refuse, and that they are made and grow as other
--- tables.
+-- What holds of all tables on regions: what the limiter alone can refuse, and that they do as other tables.
 use Rattle.std.specs.Prelude.{◌≡◌, ◌+◌, ◌≤◌, ◌⊎◌, ℕ, true, Option, Result, Ok}
 use Rattle.wasmi_meter.specs.Attempt.{MeteredValue, optional_due, covers}
 use Rattle.wasmi_meter.specs.Limiter.{Rules}
@@ -25,8 +24,7 @@ module _ {S : Type 0} (rules : Rules S) where
       → ty.minimum ≤ room → MakesTableIn rules ty room reference l result l'
       → (result ≡ Ok (new_table ty reference)) ⊎ IsDenied rules (creation_in ty room).question l l'
 
-  -- a growth of a table that its type and its region have place for, and that can be paid, is refused by the limiter
-  -- alone
+  -- a growth of a table that its type and region have place for, and that can be paid, the limiter alone refuses
   abbrev pub TableGrowthsSucceed : Type 0
   TableGrowthsSucceed =
       (room n reference : ℕ) (s : MeteredValue TableValue S) (result : Result ℕ TableError)

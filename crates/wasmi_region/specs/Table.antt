@@ -30,9 +30,8 @@ items_of ty items = record { ty = ty.element; items = items }
 -- what is asked where a table of a type is made on a region of so many references, and the causes of a refusal: it is
 -- out of memory if the region is shorter than the minimum
 abbrev pub creation_in : TableTypeValue → ℕ → Request (Unit {0}) TableError
-creation_in ty room = record (creation_of ty ty.element) {
-  refuses = λ cause. (cause ≡ OutOfSystemMemory) × (room < ty.minimum);
-}
+creation_in ty room =
+    record (creation_of ty ty.element) { refuses = λ cause. (cause ≡ OutOfSystemMemory) × (room < ty.minimum) }
 
 -- what is asked and paid where a table on a region of so many references grows by n elements, and the causes of a
 -- refusal: those of any table, and only if the region is shorter than the new size
@@ -43,17 +42,14 @@ growth_in room x n reference = record (growth_of x n reference) {
 
 -- the growth of a table on a region of so many references, by n elements
 abbrev pub region_growth : ℕ → ℕ → ℕ → TableValue → Growth TableValue TableError
-region_growth room n reference x =
-    record { amount = n; size = size_of x; request = growth_in room x n reference }
+region_growth room n reference x = record { amount = n; size = size_of x; request = growth_in room x n reference }
 
 -- a table of a type is made of one reference on a region of so many
 abbrev pub MakesTableIn : {S : Type 0} → Rules S → TableTypeValue → ℕ → ℕ → S → Result TableValue TableError → S
     → Type 0
-MakesTableIn rules ty room reference l result l' =
-    Makes rules (creation_in ty room) (new_table ty reference) l result l'
+MakesTableIn rules ty room reference = Makes rules (creation_in ty room) (new_table ty reference)
 
 -- a table on a region of so many references grows by n elements; it returns the old size
 abbrev pub GrowsTableIn : {S : Type 0} → Rules S → ℕ → ℕ → ℕ → MeteredValue TableValue S → Result ℕ TableError
     → MeteredValue TableValue S → Type 0
-GrowsTableIn rules room n reference s result s' =
-    WithCharge (Grows rules (region_growth room n reference s.value)) s result s'
+GrowsTableIn rules room n reference s = WithCharge (Grows rules (region_growth room n reference s.value)) s

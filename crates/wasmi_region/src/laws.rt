@@ -5,8 +5,7 @@ ghost use Rattle.wasmi_region.specs.Laws.{TableCreationsSucceed, TableGrowthsSuc
 
 use wasmi_meter::ResourceLimiter;
 
-/// A creation of a table on a region of at least its minimum takes no memory: the limiter alone can
-/// refuse it.
+/// A table on a region of at least its minimum takes no memory: the limiter alone can refuse it.
 #[tactic(auto, using(crate::proofs::LawsLemmas::table_creations_succeed))]
 pub fn table_creations_succeed<L: ResourceLimiter>()
     ensures { TableCreationsSucceed (optional_rules L.rules) }

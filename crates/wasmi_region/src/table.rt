@@ -1,6 +1,7 @@
 //! Tables whose elements are the first of a region of references. The caller keeps a table's type
 //! and its size, and passes them to each call with the region or with the elements; the rest of the
-//! region is room to grow in place. A reference is a number, whose type is the caller's matter.
+//! region is room to grow in place. What a growth asks a limiter. A reference is a number, whose
+//! type is the caller's matter.
 //!
 //! Own: upstream's table owns its elements.
 ghost use Rattle.std.specs.Prelude.{◌≡◌, ◌≤◌, ◌<◌, ◌+◌, length, drop, OnErr, IfOk, Some, MatchOption, true, false};
@@ -214,8 +215,7 @@ pub fn copy(
     copy_items(elements, dst, items, src, len, outside, fuel)
 }
 
-/// Copies `len` items of the type of a table's elements, from `src` on, over the elements from
-/// `dst` on.
+/// Copies `len` items of the type of a table's elements, from `src` on, over those from `dst` on.
 ///
 /// # Errors
 ///

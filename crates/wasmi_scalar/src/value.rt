@@ -64,13 +64,11 @@ pub trait Integer: Unsigned + Number {
         ensures { unsigned_abs (Self.Uint.number result) ≡ ishr_u Self.width
             (unsigned_abs (Self.Uint.number lhs)) (unsigned_abs (Self.Uint.number rhs)) };
 
-    /// Rotates to the left by `rhs` modulo the width: the bits that leave at the top come in at the
-    /// bottom.
+    /// Rotates left by `rhs` modulo the width: bits that leave at the top come in at the bottom.
     fn rotl(lhs: Self, rhs: Self) -> Self
         ensures { Self.number result ≡ irotl Self.width (Self.number lhs) (Self.number rhs) };
 
-    /// Rotates to the right by `rhs` modulo the width: the bits that leave at the bottom come in at
-    /// the top.
+    /// Rotates right by `rhs` modulo the width: bits that leave at the bottom come in at the top.
     fn rotr(lhs: Self, rhs: Self) -> Self
         ensures { Self.number result ≡ irotr Self.width (Self.number lhs) (Self.number rhs) };
 

@@ -5,8 +5,7 @@ use Rattle.wasmi_types.specs.declared.trap.TrapCode.{TrapCode}
 use Rattle.wasmi_raw.specs.declared.raw.RawVal.{RawVal}
 use Rattle.wasmi_raw.specs.RawVal.{raw_of, signed_in, unsigned_in, raw_of_vector, vector_in}
 use Rattle.wasmi_scalar.specs.Numerics.{iclz, ictz, ipopcnt, ieqz, iadd, isub, imul, idiv_s, idiv_u, irem_s, irem_u, iand, ior, ixor, ishl, ishr_s, ishr_u, irotl, irotr, ieq, ine, ilt_s, ilt_u, igt_s, igt_u, ile_s, ile_u, ige_s, ige_u, add128, sub128}
-use Rattle.wasmi_scalar_ops.specs.declared.scalar.ScalarUnaryOp.{ScalarUnaryOp}
-use Rattle.wasmi_scalar_ops.specs.declared.scalar.ScalarBinaryOp.{ScalarBinaryOp}
+use Rattle.wasmi_scalar_ops.specs.declared.{scalar.ScalarUnaryOp.ScalarUnaryOp, scalar.ScalarBinaryOp.ScalarBinaryOp}
 use Rattle.wasmi_scalar_ops.specs.declared.scalar.ScalarUnaryOp.TheVariants as unary
 use Rattle.wasmi_scalar_ops.specs.declared.scalar.ScalarBinaryOp.TheVariants as binary
 pub use Rattle.wasmi_ops.specs.LoadStoreOps.{signed_raw, as_raw, RawLoad, sign_extended, zero_extended, unextended, load_row, loaded_raw, load_name, store_row, stored_bytes, store_name}

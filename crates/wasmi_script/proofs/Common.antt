@@ -11,8 +11,7 @@ pub use Rattle.wasmi_grammar.specs.Headers.{meter_meaning, meter_off, region_byt
 pub use Rattle.wasmi_grammar.specs.Parts.{TenantRun, parts_in, calls_in}
 pub use Rattle.wasmi_grammar.specs.declared.error.ParseError.TheVariants.{BadCommand, OutOfMemory}
 pub use Rattle.wasmi_machine.specs.State.{State, new_state, no_slots, World, world, Turn}
-pub use Rattle.wasmi_machine.specs.declared.calls.Call.{Call}
-pub use Rattle.wasmi_machine.specs.declared.calls.Reply.{Reply}
+pub use Rattle.wasmi_machine.specs.declared.{calls.Call.Call, calls.Reply.Reply}
 pub use Rattle.wasmi_meter.specs.AnswerList.{answer_list_rules, new_answers, notice_answer_by}
 pub use Rattle.wasmi_script.specs.Outcomes.{replies_text, held_text, tenant_line, tenants_text, IsReadError, script_limit, IsOutcomeOfReader}
 pub use Rattle.wasmi_script.specs.Printing.{line, AppendsFront, AddsText, Flushes, Prints, PrintsFront, PrintsText, SendsFront, AddsToFront, FillsFront, HasFront}

@@ -18,8 +18,7 @@ use Rattle.wasmi_machine.proofs.ToldLemmas.{accepted_replies_are_one, replies_ar
 use Rattle.wasmi_budget.specs.Pool.{PoolValue, RunsTenant, tenant_at, tenant_rules}
 use Rattle.wasmi_script.specs.declared.replaying.Ran.{Ran}
 use Rattle.wasmi_script.specs.declared.replaying.Held.TheVariants as holding
-use Rattle.wasmi_grammar.specs.declared.script.Script.{Script}
-use Rattle.wasmi_grammar.specs.declared.header.LimiterLine.{LimiterLine}
+use Rattle.wasmi_grammar.specs.declared.{script.Script.Script, header.LimiterLine.LimiterLine}
 use Rattle.wasmi_grammar.specs.declared.header.LimiterLine.TheVariants.{Quota, Answers, Tenants}
 use Rattle.wasmi_grammar.specs.Lines.{calls_of}
 use Rattle.wasmi_grammar.specs.Meanings.{CallMeaning, WriteMeaning, SegmentMeaning, DataMeaning, OtherCall, call_meaning, limiter_meaning, PartMeaning, part_meaning, ScriptMeaning, HaveSameMeaning}
@@ -63,7 +62,7 @@ quiet_lists_decide calls s list quiet replies replies' v v' has has' ran ran' =
     (record { replies = replies; after = v; has = has; ran = ran })
     (record { replies = replies'; after = v'; has = has'; ran = ran' })
 
--- a call by what it says
+-- a call that says this, as all calls that say the same do
 abbrev HasMeaning : CallMeaning → Call → Type 0
 -- a write, by its place and its bytes
 HasMeaning (WriteMeaning memory offset bytes) call = (v : Vec ℕ _) × (call ≡ Write memory offset v) × (v.items ≡ bytes)
@@ -189,7 +188,7 @@ record SameReplies (ran ran' : Ran) : Type 0 where
   pub answers : ran.replies.items ≡ ran'.replies.items
   pub text : held_text ran.held ≡ held_text ran'.held
 
--- what holds of all items of two lists, one after the other, holds of those of each
+-- what holds of all items of two lists, as of the replies to a part and to the later ones, holds of those of each
 all_parted : {X : Type 0} (P : X → Type 0) (xs ys : List X) → All P (xs ++ ys) → All P xs × All P ys
 all_parted P xs ys all = (
   rw (take_at xs ys _ refl) at (All-take P (length xs) (xs ++ ys) all),

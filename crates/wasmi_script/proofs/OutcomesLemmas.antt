@@ -7,7 +7,7 @@ use Rattle.std.proofs.lemmas.List.FromFn.{length-enumerate_from, get_or-enumerat
 use Rattle.wasmi_script.proofs.PrintingLemmas.{texts_more, texts_at}
 use Rattle.wasmi_script.specs.declared.error.ReplayError.{ReplayError}
 
--- the first of numbered items are the first ones, numbered
+-- the first of numbered items, as tenants are, are the first ones, numbered
 take_numbered : {X : Type 0} (n count : ℕ) (xs : List X)
     → take count (enumerate_from n xs) ≡ enumerate_from n (take count xs)
 take_numbered n zero xs = refl

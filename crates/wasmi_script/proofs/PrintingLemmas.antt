@@ -1,7 +1,7 @@
 -- Texts that a printer prints one after the other, whole or in part, and texts that are written one after the other to
 -- the front of bytes.
 use Rattle.std.proofs.Common.{◌≡◌, ◌∙◌, ◌+◌, ◌<◌, ℕ, zero, suc, List, [], ◌∷◌, ◌++◌, length, take, drop, get_or, map, add-one, take-append-drop, drop-cons, None, Some, Result, Ok, Err, IfSome, OnOk, OnErr, refl, sym, ap, append_assoc, append-nil, ◌-◌, ◌%◌, ◌^◌, min, arith, length-append, length-take, length-drop}
-use Rattle.wasmi_script.proofs.Common.{WritesText, decimal, on_ok_weaker, on_err_weaker, flat_map_more, take_more, drop-drop, drop_at, drop_min, take_all, take_at, take_min, Appends-nil, Appends-trans, AppendsFront, AddsText, Flushes, Prints, PrintsFront, PrintsText, SendsFront, AddsToFront, FillsFront, HasFront}
+use Rattle.wasmi_script.proofs.Common.{WritesText, decimal, on_ok_weaker, on_err_weaker, flat_map_more, take_more, drop-drop, drop_at, drop_min, take_all, take_at, take_min, Appends, Appends-nil, Appends-trans, AppendsFront, AddsText, Flushes, Prints, PrintsFront, PrintsText, SendsFront, AddsToFront, FillsFront, HasFront}
 use Rattle.std.proofs.lemmas.Fmt.{contents_after_writes, decimal_digit}
 use Rattle.std.specs.List.{flat_map}
 use Rattle.std.proofs.lemmas.List.Concat.{flat_map-append}
@@ -88,15 +88,49 @@ module _ {W : Type 0} (contents : W → Option (List ℕ)) where
     on_err_weaker result (prints_front p q r s t [] text (is ∙ ap (λ l. s ++ l) (sym (append-nil t))) first) prints.1,
   )
 
-  -- a text is printed in part where it or what waits is sent in part
-  pub flushed : {E : Type 0} (printed result : Result (Unit {0}) E) (p q r : Printer W) (text : List ℕ)
+  -- what a printer's reference refers to at last is what its writer is once a text is printed and what waits is sent
+  pub kept : {E : Type 0} (printed result : Result (Unit {0}) E) (p q r : Printer W) (text : List ℕ) (v : W)
       → PrintsText contents text p printed q → Flushes contents printed q result r
-      → OnErr result (PrintsFront contents p r text)
-  flushed printed (Ok y) p q r text prints sent = tt
-  flushed (Ok x) (Err e) p q r text prints sent =
-      prints_front p q r text [] [] text (sym (append-nil text)) prints.0
-      (record { writer = sent.writer; sent = rw append-nil sent.sent })
-  flushed (Err e) (Err e') p q r text prints same = rw same prints.1
+      → (p.writer.ghost_name ≡ r.writer.ghost_name → v ≡ r.writer.now) → v ≡ r.writer.now
+  kept (Ok x) (Ok y) p q r text v prints sent last = last (sym (sent.writer ∙ prints.0.writer))
+  kept (Ok x) (Err e) p q r text v prints sent last = last (sym (sent.writer ∙ prints.0.writer))
+  kept (Err e) (Ok y) p q r text v prints sent last = absurd sent
+  kept (Err e) (Err e') p q r text v prints same last =
+      last (sym (ap (λ (x : Printer W). x.writer.ghost_name) same ∙ prints.1.writer))
+
+  -- the writer has a text that a printer with an empty chunk prints, once what waits is sent
+  pub all_sent : {E : Type 0} (printed result : Result (Unit {0}) E) (p q r : Printer W) (text : List ℕ) (old v : W)
+      → PrintsText contents text p printed q → Flushes contents printed q result r → p.chunk.bytes ≡ []
+      → p.writer.now ≡ old → (p.writer.ghost_name ≡ r.writer.ghost_name → v ≡ r.writer.now)
+      → OnOk result (Appends (contents old) (contents v) text)
+  all_sent {E = E} (Ok x) (Ok y) p q r text old v prints sent empty same last =
+      let (front, split, gone) = prints.0.passed in
+      let whole : text ≡ front ++ q.chunk.bytes = ap (λ l. l ++ text) (sym empty) ∙ split in
+      rw (kept {E = E} (Ok x) (Ok y) p q r text v prints sent last, ← same, whole)
+      (Appends-trans _ _ _ front q.chunk.bytes gone sent.sent)
+  all_sent (Err e) (Ok y) p q r text old v prints sent empty same last = absurd sent
+  all_sent printed (Err e) p q r text old v prints sent empty same last = tt
+
+  -- the writer has the front of such a text where it fails
+  pub front_sent : {E : Type 0} (printed result : Result (Unit {0}) E) (p q r : Printer W) (text : List ℕ) (old v : W)
+      → PrintsText contents text p printed q → Flushes contents printed q result r → p.chunk.bytes ≡ []
+      → p.writer.now ≡ old → (p.writer.ghost_name ≡ r.writer.ghost_name → v ≡ r.writer.now)
+      → OnErr result (AppendsFront (contents old) (contents v) text)
+  front_sent printed (Ok y) p q r text old v prints sent empty same last = tt
+  front_sent (Ok x) (Err e) p q r text old v prints sent empty same last =
+      let front = prints_front p q r text [] [] text (sym (append-nil text)) prints.0
+      (record { writer = sent.writer; sent = rw append-nil sent.sent }) in
+      rw (kept (Ok x) (Err e) p q r text v prints sent last, ← same) (rw empty at front.sent)
+  front_sent (Err e) (Err e') p q r text old v prints sent empty same last =
+      rw (kept (Err e) (Err e') p q r text v prints sent last, ← same, sent) (rw empty at prints.1.sent)
+
+  -- what holds of the writer once it is flushed holds at last
+  pub still : (F : W → Type 0) {E : Type 0} (printed result : Result (Unit {0}) E) (p q r : Printer W) (text : List ℕ)
+      (v : W) → PrintsText contents text p printed q → Flushes contents printed q result r
+      → OnOk result (F r.writer.now) → (p.writer.ghost_name ≡ r.writer.ghost_name → v ≡ r.writer.now)
+      → OnOk result (F v)
+  still F printed result p q r text v prints sent flushed last =
+      rw (kept printed result p q r text v prints sent last) flushed
 
   -- a text waits beside what waited
   waits : (p q : Printer W) (text : List ℕ) → q.writer ≡ p.writer → q.chunk.bytes ≡ p.chunk.bytes ++ text

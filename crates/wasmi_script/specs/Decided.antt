@@ -1,5 +1,4 @@
--- Outcomes that the bytes of a reader decide, where memory isn't refused, and runs under lists in which no answer lets
--- a notice be refused.
+-- Outcomes that a reader's bytes decide, where memory isn't refused, and runs under answers that accept each notice.
 use Rattle.std.specs.Prelude.{◌≡◌, ⊤, ℕ, List, All, Option, Some, Ok, Err}
 use Rattle.wasmi_machine.specs.Determinism.{IsNotOutOfMemory, StaysAccepting}
 use Rattle.wasmi_script.specs.declared.error.ReplayError.TheVariants.{Parse, ReadFault}
@@ -9,8 +8,7 @@ use Rattle.wasmi_grammar.specs.declared.header.LimiterLine.TheVariants.{Answers}
 use Rattle.wasmi_meter.specs.AnswerList.{notice_answer_by, AnswersAhead, answer_list_rules}
 use Rattle.wasmi_script.specs.Outcomes.{ReplayOutcome, IsOutcomeOf, outcome_text, status_after}
 use Rattle.wasmi_meter.specs.Limiter.{optional_rules}
-use Rattle.wasmi_machine.specs.declared.calls.Call.{Call}
-use Rattle.wasmi_machine.specs.declared.calls.Reply.{Reply}
+use Rattle.wasmi_machine.specs.declared.{calls.Call.Call, calls.Reply.Reply}
 use Rattle.wasmi_machine.specs.State.{State, World, world}
 use Rattle.wasmi_machine.specs.Steps.{IsRunOf}
 

@@ -1,20 +1,16 @@
 -- The outcome of a replay: the whole text that is printed of it, with what is held, the errors of reading, and the
 -- status by which a replay ends.
 use Rattle.std.specs.Prelude.{ℕ, Result, Ok, Err, ◌<◌, ⊤, List, Option, None, Some, IfSome, length, ◌≡◌, ◌≤◌, ◌⊎◌, [], ◌++◌, codes, flat_map}
-use Rattle.wasmi_script.specs.declared.error.ReplayError.{ReplayError}
+use Rattle.wasmi_script.specs.declared.{error.ReplayError.ReplayError, replaying.Status.Status, replaying.Held.Held, printing.Replayed.Replayed}
 use Rattle.wasmi_script.specs.declared.error.ReplayError.TheVariants.{Parse, TooLong, ReadFault}
-use Rattle.wasmi_script.specs.declared.replaying.Status.{Status}
 use Rattle.wasmi_script.specs.declared.replaying.Status.TheVariants.{Answered, BadScript, OutOfMemory, Fault}
 use Rattle.std.specs.Io.KnownBytes.{Appends}
 use Rattle.std.specs.Fmt.{decimal}
 use Rattle.std.specs.List.{zip, enumerate_from}
 use Rattle.wasmi_meter.specs.declared.limiter.Kind.TheVariants.{Bytes, Elements}
-use Rattle.wasmi_machine.specs.declared.calls.Call.{Call}
-use Rattle.wasmi_machine.specs.declared.calls.Reply.{Reply}
+use Rattle.wasmi_machine.specs.declared.{calls.Call.Call, calls.Reply.Reply}
 use Rattle.wasmi_machine.specs.State.{State, total}
-use Rattle.wasmi_script.specs.declared.replaying.Held.{Held}
 use Rattle.wasmi_script.specs.declared.replaying.Held.TheVariants.{Nothing, Quota, Tenants}
-use Rattle.wasmi_script.specs.declared.printing.Replayed.{Replayed}
 use Rattle.wasmi_grammar.specs.Lines.{WritesScript, calls_of, IsFirstBadLine}
 use Rattle.wasmi_script.specs.Printing.{AppendsFront, line}
 use Rattle.wasmi_script.specs.ScriptRuns.{IsReplayOf}
@@ -94,8 +90,7 @@ IsOutcomeOfReader given failed (Err ReadFault) = failed
 IsOutcomeOfReader given failed outcome =
     (bytes : List ℕ) × IfSome given (λ told. told ≡ bytes) × IsOutcomeOf bytes outcome
 
--- the writer has got the whole text and is flushed, and the status is the outcome's, or it has got a front of the text
--- and failed
+-- the writer has the whole text and is flushed, and the status is the outcome's; or it has a front, and failed
 abbrev pub PrintsOutcome : Option (List ℕ) → Option (List ℕ) → Type 0 → ReplayOutcome → Status → Type 0
 PrintsOutcome old new flushed outcome status =
     (Appends old new (outcome_text outcome) × flushed × (status ≡ status_after outcome))

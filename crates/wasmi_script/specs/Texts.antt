@@ -6,14 +6,12 @@ use Rattle.wasmi_meter.specs.Texts.{fuel_error_text, memory_error_text, table_er
 use Rattle.wasmi_typed.specs.Global.{global_error_text}
 use Rattle.wasmi_typed.specs.declared.typed_ref.TypedRawRef.{TypedRawRef}
 use Rattle.wasmi_store.specs.Segment.{segment_error_text}
-use Rattle.wasmi_machine.specs.declared.calls.Call.{Call}
+use Rattle.wasmi_machine.specs.declared.{calls.Call.Call, calls.Reply.Reply}
 use Rattle.wasmi_machine.specs.declared.calls.Call.TheVariants.{NewMemory, NewLentMemory, NewTable, NewData, NewSegment, NewGlobal}
-use Rattle.wasmi_machine.specs.declared.calls.Reply.{Reply}
-use Rattle.wasmi_script.specs.declared.error.ReplayError.{ReplayError}
+use Rattle.wasmi_script.specs.declared.{error.ReplayError.ReplayError, printing.Wording.Wording}
 use Rattle.wasmi_script.specs.declared.error.ReplayError.TheVariants.{Parse, TooLong, ReadFault}
 use Rattle.wasmi_grammar.specs.declared.error.ParseError.TheVariants.{BadCommand, OutOfMemory}
 use Rattle.wasmi_operands.specs.Names.{reference_word}
-use Rattle.wasmi_script.specs.declared.printing.Wording.{Wording}
 use Rattle.wasmi_machine.specs.declared.calls.Reply.TheVariants as reply
 
 -- the word for what a call makes; only creations make anything

@@ -1,5 +1,5 @@
 //! The lines that a replay prints, by its outcome: the script with what its run has given, the
-//! words of a reply, what is held, and the printer, which sends texts to a writer.
+//! words of a reply (`Wording`), what is held, and the printer, which sends texts to a writer.
 ghost use Rattle.std.specs.Prelude.{◌≡◌, ◌+◌, ◌≤◌, ◌++◌, [], codes, length, Some, IsOk, OnOk, OnErr, IfSome};
 ghost use Rattle.std.specs.Io.KnownBytes.{Appends};
 ghost use Rattle.wasmi_meter.specs.Texts.{numbered};
@@ -133,7 +133,7 @@ fn print_reply<W: io::Write>(
     printer.print("\n")
 }
 
-/// The bytes of a reply: none unless some were read.
+/// The bytes that are printed of a reply: none unless some were read.
 pub fn bytes_of(reply: &Reply) -> &[u8]
     ensures { result.now ≡ bytes_in reply.now }
 {

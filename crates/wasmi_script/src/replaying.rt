@@ -378,8 +378,7 @@ fn run_pool(alloc: Global, script: &Script, line: TenantsLine) -> Result<Ran, Al
     Ok(Ran { replies, held })
 }
 
-/// A pool of new machines with the meter and the reserved slots of the header, under the caps of the
-/// line.
+/// A pool of new machines with the header's meter and reserved slots, under the caps of the line.
 fn pool_of(alloc: Global, header: &Header, line: TenantsLine) -> Result<Pool<'static>, AllocError>
     ensures { IfOk result (λ pool. pool ≡ new_pool line (tenant_start header.now)) }
 {

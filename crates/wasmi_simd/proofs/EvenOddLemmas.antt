@@ -9,7 +9,7 @@ use Rattle.wasmi_simd.proofs.HalfLemmas.{lane_bits_are, reread}
 use Rattle.wasmi_simd.proofs.WideningLemmas.{extended_fits, product_fits, sum_below, sum_of_bits, dot_of_bits}
 use Rattle.std.proofs.lemmas.Nat.{shr-shr, mod-pow-add}
 
--- a lane is made of its two halves
+-- a lane of twice the width is made of its two halves, an even and an odd one
 joined_halves : (b v k : ℕ)
     → v / 2 ^ (b * (2 * k)) % 2 ^ b + 2 ^ b * (v / 2 ^ (b * (2 * k + 1)) % 2 ^ b) ≡ v / 2 ^ ((b + b) * k) % 2 ^ (b + b)
 joined_halves b v k =

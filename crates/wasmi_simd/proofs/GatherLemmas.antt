@@ -8,7 +8,7 @@ abbrev spelled : ℕ → ℕ → (ℕ → ℕ) → ℕ
 spelled p zero g = 0
 spelled p (suc n) g = g 0 + p * spelled p n (λ i. g (suc i))
 
--- the same digits give the same number
+-- the same digits, as of a bitmask, give the same number
 spelled_same : (p n : ℕ) (g h : ℕ → ℕ) → ((i : ℕ) → i < n → g i ≡ h i) → spelled p n g ≡ spelled p n h
 spelled_same p zero g h each = refl
 spelled_same p (suc n) g h each =
@@ -37,7 +37,7 @@ unfolding first_bits
 spelled_bits zero test = refl
 spelled_bits (suc n) test = ap (λ k. one_if (test 0) + 2 * k) (spelled_bits n (λ i. test (suc i)))
 
--- the highest bit of a number of h + 1 bits
+-- the highest bit of a number of h + 1 bits, as a digit
 highest_bit : (h x : ℕ) → x < 2 ^ suc h → x / 2 ^ h ≡ one_if (leb (2 ^ h) x)
 highest_bit h x fits =
     elim (cases_lt x (2 ^ h)) [

@@ -1,5 +1,5 @@
--- Lanes of vectors that are made of narrower lanes, of wider ones or of one number, and signed numbers at twice their
--- width: their wrapped sums and products, and what fits.
+-- Lanes of vectors that are made of narrower lanes or of wider ones, and signed numbers at twice their width: their
+-- wrapped sums and products, and what fits.
 use Rattle.std.proofs.Common.{ℕ, suc, ◌+◌, ◌-◌, ◌*◌, ◌%◌, ◌^◌, ◌<◌, ◌≤◌, ◌≡◌, sym, ◌∙◌, ap, ap₂, arith, inl, inr, ℤ, leb, nat_lt, if◌then◌else◌, refl, le_refl, pow-suc, ◌+ℤ◌, ◌*ℤ◌, FitsSigned, Bool, mod-eq_of_lt, mod-lt, T, pos, negsuc, unsigned_abs, zero-add}
 use Rattle.wasmi_simd.proofs.Common.{pow_pos, mul-le, shl_below, cast_unsigned, int_wrap, pow_mono, cases_lt, lt-ltb, le-ltb, le-leb, Width, w8, w16, w32, w64, bits, wrap, signed, lane, lane_count, signed_fits, unsigned, lane_below, lane_of_from, some_bits, IsWidening, hbits, half_unary, half_binary, pairwise_unary, pairwise_binary, from_low_high}
 use Rattle.std.proofs.lemmas.Int.{of_z-to_z, wrapping_add_is, wrapping_mul_is, fits_signed_mul, to_z-of_z}
@@ -117,7 +117,7 @@ module _ {A : Type 0} (narrow wide : Width) (read : ℕ → A) (i : ℕ) (inside
 
 -- ---- extended lanes
 
--- a number in the signed range, wrapped, is read as itself
+-- a number in the signed range, wrapped to a lane, is read of it as itself
 pub signed_of_wrapped : (w : Width) (z : ℤ) → FitsSigned w z → signed w (wrap w z) ≡ z
 signed_of_wrapped w z fits = ap (signed w) (wrap_signed w z fits) ∙ to_z-of_z w z fits
 

@@ -1,5 +1,4 @@
--- The vector instructions (core specification, "Numerics") that widen, narrow or test lanes, and the relaxed ones, by
--- their lanes.
+-- Vector instructions (core specification, "Numerics") that widen, narrow or test lanes, and relaxed ones, by lanes.
 use Rattle.std.specs.Prelude.{ℕ, zero, suc, ◌+◌, ◌-◌, ◌*◌, Bool, true, ◌&&◌, nat_lt, if◌then◌else◌, ◌^◌, not, nat_eq, nat_le, ◌+ℤ◌, ◌*ℤ◌}
 use Rattle.wasmi_types.specs.Numbers.{Width, bits, w8, w16, w32, signed, wrap, clamp_signed, clamp_unsigned}
 use Rattle.wasmi_lanes.specs.Vector.{lane, lane_count, from_lanes, unsigned, with_lane}

@@ -87,8 +87,7 @@ pub fn bits_of_lanes<A>()
     ensures tests_below { (n : ℕ) (test : ℕ → Bool) → first_bits n test < 2 ^ n }
 {}
 
-/// A test of every lane holds exactly where it holds of each. `A` is the integer as which a lane is
-/// read.
+/// A test of every lane holds exactly where it holds of each. `A` is the integer a lane is read as.
 #[tactic(auto, using(crate::proofs::WideningLemmas::laws), unfolding(crate::specs::WideningTable::every_lane))]
 pub fn tests_of_lanes<A>()
     ensures lanes { (w : Width) (read : ℕ → A) (test : A → Bool) (v : ℕ)

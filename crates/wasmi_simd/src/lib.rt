@@ -1,5 +1,4 @@
-//! The vector instructions of WebAssembly that widen, narrow, shift or test lanes, and the relaxed
-//! ones.
+//! WebAssembly's vector instructions that widen, narrow, shift or test lanes, and the relaxed ones.
 #![tactic(auto)]
 
 pub mod laws;

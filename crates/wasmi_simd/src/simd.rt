@@ -1,4 +1,5 @@
-//! The vector instructions that widen, narrow, shift or test lanes, and the relaxed ones.
+//! The vector instructions that widen, narrow, shift or test lanes, the relaxed ones, and what
+//! loads of parts of a vector make of a number.
 //!
 //! Each function is the instruction of its name: `i16x8_extend_low_i8x16_s` is
 //! `i16x8.extend_low_i8x16_s`, which makes 8 lanes of 16 bits of 16 lanes of 8 bits; lane 0 is the
@@ -610,8 +611,7 @@ fn no_zero<T: WordLane>(v: V128) -> bool
     no_zero_in_word::<T>(low) & no_zero_in_word::<T>(high)
 }
 
-// The lowest lane that is 0 borrows, and gets a highest bit; what a borrow makes of the lanes above
-// doesn't matter.
+// The lowest lane that is 0 borrows, and gets a highest bit; the lanes above don't matter then.
 #[inline(always)]
 fn no_zero_in_word<T: WordLane>(word: u64) -> bool
     ensures { result
@@ -621,8 +621,7 @@ fn no_zero_in_word<T: WordLane>(word: u64) -> bool
     word.wrapping_sub(T::ONES) & !word & T::TOPS == 0
 }
 
-// The highest bits of the lanes of 8 bits of a word: the product brings each of them to its place
-// in the highest byte.
+// The top bits of a word's lanes of 8 bits: the product brings each to its place in the top byte.
 #[inline(always)]
 fn tops_of_8(word: u64) -> u32
     ensures { result ≡ first_bits 8 (λ i. nat_le (2 ^ 7) (field (8 * i) 8 word)) }
@@ -630,8 +629,7 @@ fn tops_of_8(word: u64) -> u32
     ((word & u8::TOPS).wrapping_mul(0x0002_0408_1020_4081) >> 56) as u32
 }
 
-// The relaxed instructions. Where the standard leaves a choice, each gives what another instruction
-// gives.
+// The relaxed instructions. Where the standard leaves a choice, each gives what another one gives.
 
 /// As `i8x16_swizzle`: 0 where the index is above 15.
 pub fn i8x16_relaxed_swizzle(a: V128, s: V128) -> V128

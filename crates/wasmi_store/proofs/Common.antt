@@ -9,10 +9,8 @@ pub use Rattle.wasmi_meter.proofs.AttemptLemmas.{IsPermitted, ReachesCharge, att
 pub use Rattle.wasmi_meter.specs.Attempt.{MeteredValue, alone, Request, AttemptOutcome, Unasked, Denied, Met, Failed, Attempt, Permits, answer_of, error_of_failure, optional_due, covers, MayEnd, value_after}
 pub use Rattle.wasmi_meter.specs.Limiter.{Question, Answer, NoticeAnswer, Rules, KeepsLoan, optional_rules}
 pub use Rattle.wasmi_meter.specs.Meter.{Meter, amount_left, Charges, due, copy_cost, meter_after}
-pub use Rattle.wasmi_meter.specs.declared.error.MemoryError.{MemoryError}
-pub use Rattle.wasmi_meter.specs.declared.error.TableError.{TableError}
+pub use Rattle.wasmi_meter.specs.declared.{error.MemoryError.MemoryError, error.TableError.TableError, fuel.CustomFuelCosts.CustomFuelCosts}
 pub use Rattle.wasmi_meter.specs.declared.error.TableError.TheVariants.{GrowOutOfBounds, ElementTypeMismatch, OutOfFuel, FillOutOfBounds}
-pub use Rattle.wasmi_meter.specs.declared.fuel.CustomFuelCosts.{CustomFuelCosts}
 pub use Rattle.wasmi_store.specs.Buffer.{with_zeros, fits_room, refilled_front, view_of, EndsWithin, BufferValue, zeros_in}
 pub use Rattle.wasmi_store.specs.Growth.{IsAsked, Makes, Growth, Grows, metered_value, metered, WithCharge}
 pub use Rattle.wasmi_store.specs.Memory.{MemoryTypeValue, page_bytes, minimum_bytes, maximum_bytes, in_bounds, MemoryValue, pages_of, new_memory, size_question, MakesMemory, PermitsMinimum, WritesMemory, IsValidMemory, GrowsMemoryCharging, bytes_write, memory_of}

@@ -1,7 +1,7 @@
--- The making and the growth of any value, by what was tested on the way: the limiter's answer or notice, the late
--- cause, and what the meter can pay; and a growth of another request, of a loan, and without a meter.
+-- Facts by a test; the making and the growth of any value, by what was tested on the way: the limiter's answer or
+-- notice, the late cause, and what the meter can pay; and a growth of another request, of a loan, and without a meter.
 use Rattle.std.proofs.Common.{◌≡◌, ℕ, ◌<◌, ◌≤◌, Bool, true, false, Option, Some, None, Result, Ok, Err, inl, inr, refl, ap, ◌∙◌, arith}
-use Rattle.wasmi_store.proofs.Common.{cond-true, cond-false, if◌then◌else◌, MatchBool, nat_tests, CustomFuelCosts, Question, Answer, NoticeAnswer, Rules, KeepsLoan, Meter, amount_left, Charges, MeteredValue, alone, Request, AttemptOutcome, Unasked, Denied, Met, Failed, Attempt, Permits, answer_of, error_of_failure, optional_due, covers, IsPermitted, ReachesCharge, attempt_unasked, attempt_denied, attempt_late, attempt_unpaid, attempt_refused, attempt_met, IsAsked, Makes, Growth, Grows, metered_value}
+use Rattle.wasmi_store.proofs.Common.{cond-true, cond-false, if◌then◌else◌, MatchBool, nat_tests, CustomFuelCosts, Question, Answer, NoticeAnswer, Rules, KeepsLoan, Meter, amount_left, Charges, MeteredValue, alone, Request, AttemptOutcome, Unasked, Denied, Met, Failed, Attempt, Permits, answer_of, error_of_failure, optional_due, covers, IsPermitted, ReachesCharge, attempt_unasked, attempt_denied, attempt_late, attempt_unpaid, attempt_refused, attempt_met, IsAsked, Makes, Growth, Grows, WithCharge, metered_value}
 use Rattle.std.specs.Borrow.{MutBor}
 use Rattle.std.proofs.lemmas.Grind.{common_steps}
 use Rattle.wasmi_meter.specs.declared.limiter.LimiterRef.{LimiterRef}
@@ -42,6 +42,12 @@ grows_too g e still attempts (inr some) =
     let there = attempts some.outcome some.answered some.attempt in
     inr (record { some = some.some; outcome = some.outcome; attempt = there.1; answered = there.0 })
 
+-- a growth by 0 returns the size, and changes nothing
+pub grows_none : {V E S : Type 0} (rules : Rules S) (g : Growth V E) (s : MeteredValue V S) {result : Result ℕ E}
+    → g.amount ≡ 0 → result ≡ Ok g.size → WithCharge (Grows rules g) s result s
+grows_none rules g s none answered =
+    (0, inl (record { none = none; answered = answered; uncharged = refl; same = refl }))
+
 -- what holds of a loan's states holds of the limiter that was lent
 pub of_loan : {L : Type 0} (Holds : Option L → Option L → Type 0) (s s' : Option L) (l l' : L) → s ≡ Some l
     → s' ≡ Some l' → Holds s s' → Holds (Some l) (Some l')
@@ -64,7 +70,7 @@ abbrev pub TellsOf : {V E S : Type 0} → Rules S → Request V E → E → S �
 TellsOf rules e cause l error l' = (answer : NoticeAnswer) × rules.noticed l (e.notice cause) answer l'
     × (error ≡ error_of_failure e.refusal cause answer)
 
--- a request is permitted where its question is
+-- a request is permitted where the limiter's answer permits its question
 pub permitted_by : {V E S : Type 0} (rules : Rules S) (e : Request V E) (question : Question) → IsAsked e question
     → (l permitted : S) → rules.asked l question (Ok true) permitted → IsPermitted rules e l permitted
 permitted_by rules e question is l permitted asks = record { early = is.early; asks = rw is.question_is at asks }

@@ -1,8 +1,10 @@
 -- A copy over another range of the same list, a part at a time: of items that move down, and of items that move up.
-use Rattle.std.proofs.Common.{◌≡◌, ℕ, ◌+◌, ◌-◌, ◌≤◌, List, ◌++◌, length, take, drop, sym, ap, ◌∙◌, arith, append_assoc, length-drop}
+use Rattle.std.proofs.Common.{rules, true, Some, ◌≡◌, ℕ, ◌+◌, ◌-◌, ◌≤◌, List, ◌++◌, length, take, drop, sym, ap, ◌∙◌, arith, append_assoc, length-drop}
 use lib.Seq.{paste, take-add, take-paste, drop-paste}
-use Rattle.wasmi_store.proofs.Common.{take-take, take_at, drop_at, drop-drop, drop-take}
-use Rattle.std.proofs.lemmas.List.{length-take-le}
+use Rattle.wasmi_store.proofs.Common.{cond-true, nat_le, nat_tests, take-take, take_at, drop_at, drop-drop, drop-take}
+use Rattle.std.proofs.lemmas.List.{length-take-le, take-append-drop}
+use Rattle.wasmi_types.specs.Access.{overwrite}
+use Rattle.wasmi_store.specs.Write.{copied}
 
 -- a part copied behind what was copied downwards
 pub copied_down : {A : Type 0} (xs ys : List A) (dst src done n : ℕ) → dst ≤ src → src + done + n ≤ length xs
@@ -51,3 +53,16 @@ copied_up {A = A} xs ys dst src len left n up some within fits is =
     let sum : len - less ≡ n + rest = omega arith in
     let end : dst + less + (n + rest) ≡ a + rest = omega arith in
     rw (front (dst + less) (omega arith), middle, tail, sum, end, take-add n rest t, split) (simp append_assoc)
+
+-- a part of a list that is written over one of another
+pub overwritten : {A : Type 0} (xs source : List A) (dst src len : ℕ) → src + len ≤ length source
+    → dst + len ≤ length xs → overwrite xs dst (take len (drop src source)) ≡ Some (paste xs dst (drop src source) len)
+overwritten xs source dst src len from to =
+    let rest = length-drop src source in
+    rw (length-take-le len (drop src source) (omega arith))
+    (cond-true (nat_le (dst + len) (length xs)) _ _ (grind (arith, nat_tests)))
+
+-- a list to which no items are copied stays
+pub none_copied : {A : Type 0} (xs source : List A) (dst src : ℕ) → true ≡ nat_le (src + 0) (length source)
+    → true ≡ nat_le (dst + 0) (length xs) → copied xs dst source src 0 ≡ Some xs
+none_copied xs source dst src from to = rw (← from, ← to) (ap Some (search (rules, take-append-drop)))

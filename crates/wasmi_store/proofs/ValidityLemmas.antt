@@ -13,7 +13,7 @@ use Rattle.wasmi_store.proofs.GrowthLemmas.{on_test}
 use Rattle.wasmi_store.proofs.MemoryLemmas.{memory_growth, sized_grown}
 use Rattle.wasmi_store.proofs.TableLemmas.{table_growth}
 
--- what is made is made by an attempt that was met
+-- for the validity of what is made: the attempt that makes it was met
 made_met : {T E S : Type 0} (rules : Rules S) (e : Request (Unit {0}) E) (made x : T) (l l' : S)
     → Makes rules e made l (Ok x) l' → (x ≡ made) × (e.early ≡ None) × (e.late ≡ None)
 made_met rules e made x l l' (Met, attempt, answered) = (cc, attempt.may_end.0, attempt.may_end.1)
@@ -39,13 +39,13 @@ passed : {E : Type 0} (test : Bool) (cause : E)
 passed true cause absent = refl
 passed false cause absent = absurd (none-some cause (sym absent))
 
--- bytes that are whole pages, and the number of them
+-- bytes that are whole pages, as those of a valid memory are, and the number of them
 pages_multiplied : (page : PageSize) (n : ℕ)
     → ((n * page_bytes page) % page_bytes page ≡ 0) × ((n * page_bytes page) / page_bytes page ≡ n)
 pages_multiplied Byte n = (omega arith, omega arith)
 pages_multiplied Wasm n = (omega arith, omega arith)
 
--- a minimum lies within its maximum, if there is one
+-- the minimum of a valid type lies within its maximum, if there is one
 maximum_holds : (n : ℕ) (maximum : Option ℕ) → ForSome maximum (λ m. n ≤ m)
     → option_map_or (λ m. nat_le n m) maximum true ≡ true
 maximum_holds n None within = refl

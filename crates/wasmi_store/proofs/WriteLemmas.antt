@@ -1,10 +1,10 @@
 -- Writes over a range: one of a list of items as one of the memory or table that has them, one without a meter, and how
--- a write ends: refused or paid for, in one way.
-use Rattle.std.proofs.Common.{subst, ◌≡◌, ℕ, ◌≤◌, ◌⊎◌, inl, inr, Bool, true, false, Option, Some, None, Ok, Err, List, length, drop, refl, sym, ap, ◌∙◌, Vec, Global}
+-- a write ends: refused or paid for from the meter, in one way.
+use Rattle.std.proofs.Common.{arith, subst, ◌≡◌, ℕ, ◌≤◌, ◌⊎◌, inl, inr, Bool, true, false, Option, Some, None, Ok, Err, List, length, drop, refl, sym, ap, ◌∙◌, Vec, Global}
 use Rattle.wasmi_store.proofs.Common.{MatchBool, refill, take_at, MemoryError, TableError, CustomFuelCosts, OutOfFuel, MeteredValue, covers, optional_due, Meter, meter_after, meter_after_nothing, metered, WithCharge, MeteredWrite, EndsBy, IsRefusedFor, Writes, WritesCharging, write_charge, write_due, items_write, WritesItems, BulkWrites, item_price, MemoryValue, bytes_write, elements_write, element_price, with_elements, TableValue, TableTypeValue, TableWrite, with_items_is}
 use Rattle.std.specs.Prelude.{Result}
 use Rattle.std.specs.Option.{option_map}
-use Rattle.wasmi_store.proofs.GrowthLemmas.{on_both_tests, on_test_too}
+use Rattle.wasmi_store.proofs.GrowthLemmas.{on_both_tests, on_test_too, payable}
 use Rattle.wasmi_meter.specs.declared.error.MemoryError.TheVariants as memory
 use Rattle.std.specs.Vec.{with_items, vec_capacity}
 use Rattle.wasmi_store.specs.Table.{IsSized}
@@ -25,6 +25,13 @@ module _ {A V E : Type 0} (put : List A → V) (outside : E) (price : Option (Cu
   writes_put (Some items) writes = on_test_too (covers m (optional_due m price)) _ _ _ _
       (λ h. (h.0, ap (λ s. metered (put s.value) s.meter) h.1))
       (λ h. (h.0, ap (λ s. metered (put s.value) s.meter) h.1)) writes
+
+-- items that are written over by themselves, for nothing, stay
+pub free_write : {A E : Type 0} (unpaid : ℕ → E) (outside : E) (xs : List A) (m : Meter) {written : Option (List A)}
+    → written ≡ Some xs
+    → WritesItems unpaid written outside None (metered xs (Some m)) (Ok tt) (metered xs (Some m))
+free_write unpaid outside xs m is =
+    rw (is, payable m 0 (omega arith)) (refl, ap (metered xs) (meter_after_nothing (Some m)))
 
 -- a write takes place with its charge
 pub charging : {V E : Type 0} (write : V → MeteredWrite V E) {s s' : MeteredValue V (Unit {0})}
@@ -159,7 +166,7 @@ pub write_ends : {V E : Type 0} (write : V → MeteredWrite V E) (s : MeteredVal
 write_ends write s result charge s' writing =
     let w = write s.value in ends_by w s result charge writing.charged s' w.early w.written refl writing.writes
 
--- a write takes its charge from the meter
+-- a write ends with its charge taken from the meter
 pub write_takes : {V E : Type 0} (write : V → MeteredWrite V E) (s : MeteredValue V (Unit {0}))
     (result : Result (Unit {0}) E) (charge : ℕ) (s' : MeteredValue V (Unit {0}))
     → WritesCharging write s result charge s' → s'.meter ≡ option_map (λ m. meter_after m charge) s.meter

@@ -1,5 +1,5 @@
--- Making and growing a memory or a table, as an attempt with its answer; a value with its meter and its limiter, what a
--- limiter is asked and denies, and a call with some charge.
+-- Making and growing a memory or a table, as an attempt with its answer: how what it begins with is put together, what
+-- a limiter is asked and denies, and a call with some charge.
 use Rattle.std.specs.Prelude.{◌≡◌, ◌<◌, ◌⊎◌, ℕ, Option, None, Result, Ok}
 use Rattle.wasmi_meter.specs.Limiter.{Question, Answer, IsDenial, Rules}
 use Rattle.wasmi_meter.specs.Meter.{Meter}

@@ -6,8 +6,7 @@ use Rattle.std.specs.Option.{option_map, option_map_or, ForSome}
 use Rattle.wasmi_types.specs.declared.index_ty.IndexType.{IndexType}
 use Rattle.wasmi_types.specs.declared.index_ty.IndexType.TheVariants.{I32}
 use Rattle.wasmi_types.specs.Value.{address_bits}
-use Rattle.wasmi_store.specs.declared.memory.ty.MemoryTypeBuilder.{MemoryTypeBuilder}
-use Rattle.wasmi_store.specs.declared.memory.ty.PageSize.{PageSize}
+use Rattle.wasmi_store.specs.declared.{memory.ty.MemoryTypeBuilder.MemoryTypeBuilder, memory.ty.PageSize.PageSize}
 use Rattle.wasmi_store.specs.declared.memory.ty.PageSize.TheVariants.{Byte, Wasm}
 use Rattle.wasmi_types.specs.Access.{overwrite}
 use Rattle.wasmi_meter.specs.declared.error.MemoryError.{MemoryError}
@@ -64,8 +63,7 @@ pub record IsValid (ty : MemoryTypeValue) : Type 0 where
   pub minimum : ty.minimum ≤ greatest_pages ty
   pub maximum : ForSome ty.maximum (λ maximum. (ty.minimum ≤ maximum) × (maximum ≤ greatest_pages ty))
 
--- whether a memory of the type may have so many pages: no more than it can address, nor than its maximum, and less than
--- 2 ^ 64 bytes
+-- whether a memory of the type may have so many pages: by its addresses and its maximum, and less than 2 ^ 64 bytes
 abbrev pub in_bounds : MemoryTypeValue → ℕ → Bool
 in_bounds ty pages =
     nat_le pages (greatest_pages ty) && option_map_or (λ maximum. nat_le pages maximum) ty.maximum true && nat_lt
@@ -147,8 +145,7 @@ creation_of room ty = record {
   grown = tt;
 }
 
--- what is asked and paid where a memory grows by so many pages, and the causes of a refusal: a short region before want
--- of fuel
+-- what a growth of a memory by so many pages asks and pays, and its causes: a short region before want of fuel
 abbrev pub growth_of : MemoryValue → ℕ → Request MemoryValue MemoryError
 growth_of x pages = let added = pages * page_bytes x.ty.page in record {
   early = if in_bounds x.ty (pages_of x + pages) then None else Some OutOfBoundsGrowth;

@@ -1,11 +1,9 @@
--- Element segments (core specification, element instances), how one is read of an iterator, and what their errors
--- print.
+-- Element segments (core specification, element instances), how one is read of an iterator, and their errors' texts.
 use Rattle.std.specs.Prelude.{◌≡◌, ◌^◌, ◌-◌, ◌<◌, ◌≤◌, ℕ, List, [], length, Option, Result, Ok, Err, codes}
 use Rattle.std.specs.Iterator.{Yields}
 use Rattle.wasmi_types.specs.declared.value.RefType.{RefType}
 use Rattle.wasmi_types.specs.Reading.{ReadsAll, ReadsTooMany}
-use Rattle.wasmi_store.specs.declared.table.element.ElementSegmentRef.{ElementSegmentRef}
-use Rattle.wasmi_store.specs.declared.table.element.SegmentError.{SegmentError}
+use Rattle.wasmi_store.specs.declared.{table.element.ElementSegmentRef.ElementSegmentRef, table.element.SegmentError.SegmentError}
 use Rattle.wasmi_store.specs.declared.table.element.SegmentError.TheVariants.{TooManyItems, OutOfSystemMemory}
 
 -- an element segment: the type of its items, and the items

@@ -2,15 +2,13 @@
 -- instruction writes over a range of them (core specification, table types and table instances).
 use Rattle.std.specs.Prelude.{◌≡◌, ◌^◌, ◌≤◌, ◌<◌, ℕ, Bool, true, false, nat_le, nat_lt, Option, ◌+◌, List, [], ◌∷◌, ◌++◌, length, replicate, max, nat_eq, if◌then◌else◌, MatchBool, MatchOption, Some, None, Result, Ok, Err, slice_get}
 use Rattle.std.specs.Option.{option_map_or, ForSome, option_map}
-use Rattle.wasmi_types.specs.declared.value.RefType.{RefType}
+use Rattle.wasmi_types.specs.declared.{value.RefType.RefType, index_ty.IndexType.IndexType}
 use Rattle.wasmi_types.specs.declared.value.RefType.TheVariants.{Func, Extern}
-use Rattle.wasmi_types.specs.declared.index_ty.IndexType.{IndexType}
 use Rattle.wasmi_types.specs.Value.{address_bits}
 use Rattle.wasmi_store.specs.Memory.{IsNoLooser}
 use Rattle.wasmi_types.specs.Access.{overwrite}
 use Rattle.wasmi_typed.specs.declared.typed_ref.TypedRawRef.{TypedRawRef}
-use Rattle.wasmi_meter.specs.declared.fuel.CustomFuelCosts.{CustomFuelCosts}
-use Rattle.wasmi_meter.specs.declared.error.TableError.{TableError}
+use Rattle.wasmi_meter.specs.declared.{fuel.CustomFuelCosts.CustomFuelCosts, error.TableError.TableError}
 use Rattle.wasmi_meter.specs.declared.error.TableError.TheVariants.{OutOfSystemMemory, ResourceLimiterDeniedAllocation, GrowOutOfBounds, InitOutOfBounds, FillOutOfBounds, SetOutOfBounds, CopyOutOfBounds, ElementTypeMismatch, OutOfFuel}
 use Rattle.wasmi_meter.specs.declared.limiter.Kind.TheVariants.{Elements}
 use Rattle.wasmi_meter.specs.Limiter.{TableFailure, Rules}
@@ -210,8 +208,7 @@ abbrev pub copy_of : ℕ → ℕ → ℕ → TableValue → TableValue → Table
 copy_of dst src len source x = elements_write x (same_type x.ty.element source.ty.element)
     (copied x.elements dst source.elements src len) CopyOutOfBounds (Some len)
 
--- len items from src on of an element segment are copied over a table's elements from dst on; where len is 0, that is
--- free
+-- len items from src on of a segment are copied over a table's elements from dst on, which is free where len is 0
 abbrev pub initialization_of : ℕ → ℕ → ℕ → SegmentValue → TableValue → TableWrite
 initialization_of dst src len segment x = elements_write x (same_type x.ty.element segment.ty)
     (copied x.elements dst segment.items src len) InitOutOfBounds (if nat_eq len 0 then None else Some len)

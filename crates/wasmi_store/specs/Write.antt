@@ -3,9 +3,8 @@
 use Rattle.std.specs.Prelude.{◌≡◌, ℕ, Option, Some, None, Result, Ok, Err, List, replicate, MatchBool}
 use Rattle.std.specs.Option.{option_map, option_and_then}
 use Rattle.wasmi_types.specs.Access.{at, overwrite}
-use Rattle.wasmi_meter.specs.declared.error.MemoryError.{MemoryError}
+use Rattle.wasmi_meter.specs.declared.{error.MemoryError.MemoryError, fuel.CustomFuelCosts.CustomFuelCosts}
 use Rattle.wasmi_meter.specs.declared.error.MemoryError.TheVariants.{OutOfBoundsAccess, OutOfFuel}
-use Rattle.wasmi_meter.specs.declared.fuel.CustomFuelCosts.{CustomFuelCosts}
 use Rattle.wasmi_meter.specs.Meter.{copy_cost, meter_after}
 use Rattle.wasmi_meter.specs.Attempt.{MeteredValue, optional_due, covers}
 use Rattle.wasmi_store.specs.Growth.{metered}
@@ -14,8 +13,7 @@ use Rattle.wasmi_store.specs.Growth.{metered}
 abbrev pub filled : {A : Type 0} → List A → ℕ → A → ℕ → Option (List A)
 filled items dst value len = overwrite items dst (replicate len value)
 
--- items whose part from dst on is written over by so many items of a list from src on, or none where a list ends too
--- early
+-- items whose part from dst on is written over by len items of a list from src on, or none where a list ends early
 abbrev pub copied : {A : Type 0} → List A → ℕ → List A → ℕ → ℕ → Option (List A)
 copied items dst source src len = option_and_then (λ part. overwrite items dst part) (at source src len)
 
@@ -78,7 +76,7 @@ abbrev pub WritesItems : {A E : Type 0} → (ℕ → E) → Option (List A) → 
     → MeteredValue (List A) (Unit {0}) → Result (Unit {0}) E → MeteredValue (List A) (Unit {0}) → Type 0
 WritesItems unpaid written outside price = Writes (items_write unpaid written outside price)
 
--- a bulk instruction writes so many bytes, each of which is paid for
+-- a bulk instruction writes so many bytes of a list, each of which is paid for
 abbrev pub BulkWrites : Option (List ℕ) → ℕ → MeteredValue (List ℕ) (Unit {0}) → Result (Unit {0}) MemoryError
     → MeteredValue (List ℕ) (Unit {0}) → Type 0
 BulkWrites written len = WritesItems OutOfFuel written OutOfBoundsAccess (Some (item_price 1 len))

@@ -2,8 +2,7 @@
 //! fuel. The bounds are tested first, then the fuel, also for no item. A write that is refused writes and
 //! takes nothing. A bound is cast after the test alone, when it is no greater than a length.
 //!
-//! Own: upstream's crate has no bulk instructions for memories. They are tested and charged as its
-//! calls on tables.
+//! Own: upstream has no bulk instructions for memories. They are tested and charged as for tables.
 ghost use Rattle.std.specs.Prelude.{◌≡◌, length, nat_eq, if◌then◌else◌, None, Some};
 ghost use Rattle.std.specs.Option.{option_map};
 ghost use Rattle.wasmi_store.specs.Growth.{metered};

@@ -125,7 +125,8 @@ pub fn tell<L: ResourceLimiter, E: GrowthError>(
     }
 }
 
-/// Takes the fuel for copying `values` values of a type. A meter that is off takes nothing.
+/// Takes the fuel for copying `values` values of a type, as a growth or a write over a range is
+/// charged. A meter that is off takes nothing.
 ///
 /// # Errors
 ///

@@ -122,8 +122,7 @@ impl<R: Region> LinearMemory<R> {
         self.ty
     }
 
-    /// The type that it was made with, with the present size as its minimum: a subtype of that
-    /// type.
+    /// The type that it was made with, with the present size as its minimum: a subtype of it.
     pub fn dynamic_ty(&self) -> MemoryType
         ensures value { result ≡ dynamic_type self.now }
         ensures subtype { IsSubtype result self.now.ty }
@@ -268,8 +267,7 @@ impl<R: Region> LinearMemory<R> {
         write_bytes(self.buffer.data_mut(), offset, buffer)
     }
 
-    /// Fills `len` bytes from `dst` on with a value. It is charged as a table's `fill`, by the
-    /// bytes.
+    /// Fills `len` bytes from `dst` on with a value. It is charged as a table's `fill`, by bytes.
     ///
     /// Core specification, memory.fill.
     ///
@@ -305,8 +303,7 @@ impl<R: Region> LinearMemory<R> {
         fill_items(self.data_mut(), dst, value, len, OUTSIDE, fuel)
     }
 
-    /// Copies `len` bytes from `src` on over those from `dst` on. If the ranges overlap, the old
-    /// bytes are copied.
+    /// Copies `len` bytes from `src` on over those from `dst` on: the old ones if they overlap.
     ///
     /// Core specification, memory.copy within a memory.
     ///
@@ -341,8 +338,7 @@ impl<R: Region> LinearMemory<R> {
         copy_items_within(self.data_mut(), dst, src, len, OUTSIDE, fuel)
     }
 
-    /// Copies `len` bytes of another memory, from `src` on, over the bytes of a memory from `dst`
-    /// on.
+    /// Copies `len` bytes of another memory, from `src` on, over those of a memory from `dst` on.
     ///
     /// Core specification, memory.copy of two memories.
     ///

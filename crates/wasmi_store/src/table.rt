@@ -45,11 +45,7 @@ impl Model for Table {
 
     ghost Value = { TableValue };
 
-    ghost view = { λ t. record {
-      ty = t.ty;
-      elements = t.elements.items;
-      reserved = t.reserved;
-    } };
+    ghost view = { λ t. record { ty = t.ty; elements = t.elements.items; reserved = t.reserved } };
 
     ghost invariant = { λ t. IsSized t.ty (length t.elements.items)
         × (t.reserved ≤ vec_capacity t.elements) };
@@ -134,8 +130,7 @@ impl Table {
         self.ty
     }
 
-    /// The type that it was made with, with the present size as its minimum: a subtype of that
-    /// type.
+    /// The type that it was made with, with the present size as its minimum: a subtype of it.
     pub fn dynamic_ty(&self) -> TableType
         ensures value { result ≡ dynamic_type self.now }
         ensures subtype { IsSubtype result self.now.ty }
@@ -155,8 +150,7 @@ impl Table {
     ///
     /// # Errors
     ///
-    /// `ElementTypeMismatch` if the reference is of another type, also in a growth by 0; then those
-    /// of `grow_raw`.
+    /// `ElementTypeMismatch` if the type differs, also in a growth by 0; then those of `grow_raw`.
     pub fn grow<L: ResourceLimiter>(
         &mut self,
         delta: u64,
@@ -294,8 +288,7 @@ impl Table {
         self.set_raw(index, value.raw)
     }
 
-    /// Sets the element at an index. The type of the reference isn't tested: that is up to the
-    /// caller.
+    /// Sets the element at an index. The reference's type isn't tested: that is up to the caller.
     ///
     /// # Errors
     ///
@@ -350,14 +343,12 @@ impl Table {
         init_elements(self.elements.as_mut_slice(), dst, items, src, len, fuel)
     }
 
-    /// Copies `len` elements of another table, from `src` on, over the elements of a table from
-    /// `dst` on.
+    /// Copies `len` elements of another table, from `src` on, over those of a table from `dst` on.
     ///
     /// # Errors
     ///
-    /// In the order of the tests: `ElementTypeMismatch` if the tables are of two types;
-    /// `CopyOutOfBounds` if a range ends past its table; `OutOfFuel`, which is tested also if no
-    /// element is copied.
+    /// In the order of the tests: `ElementTypeMismatch` if the types differ; `CopyOutOfBounds` if a
+    /// range ends past its table; `OutOfFuel`, which is tested also if no element is copied.
     pub fn copy(
         dst_table: &mut Table,
         dst: u64,
@@ -391,8 +382,7 @@ impl Table {
         copy_items(elements, dst, items, src, len, outside, fuel)
     }
 
-    /// Copies `len` elements from `src` on over those from `dst` on. If the ranges overlap, the old
-    /// elements are copied.
+    /// Copies `len` elements from `src` on over those from `dst` on: the old ones if they overlap.
     ///
     /// # Errors
     ///

@@ -3,9 +3,7 @@ use Rattle.std.specs.Prelude.{◌≡◌, Some, None, Result, Ok, Err, ℕ, List,
 use Rattle.std.specs.Int.{w32, int_rem_euclid}
 use Rattle.wasmi_types.specs.Value.{reference_of}
 use Rattle.wasmi_raw.specs.RawVal.{unsigned_in}
-use Rattle.wasmi_typed.specs.declared.typed.TypedRawVal.{TypedRawVal}
-use Rattle.wasmi_typed.specs.declared.typed_ref.TypedRawRef.{TypedRawRef}
-use Rattle.wasmi_typed.specs.declared.typed_ref.NotAReference.{NotAReference}
+use Rattle.wasmi_typed.specs.declared.{typed.TypedRawVal.TypedRawVal, typed_ref.TypedRawRef.TypedRawRef, typed_ref.NotAReference.NotAReference}
 
 -- the answer is the reference that a typed raw value is, or the error where its type is none of references
 abbrev pub IsReference : TypedRawVal → Result TypedRawRef NotAReference → Type 0

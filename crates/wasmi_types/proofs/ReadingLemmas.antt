@@ -3,8 +3,7 @@
 use Rattle.std.proofs.Common.{◌≡◌, ℕ, ◌+◌, ◌<◌, List, [], ◌++◌, length, inl, inr, ap, arith, length-append, take, drop, Ok, ◌≤◌, ◌∷◌, refl, append_assoc}
 use Rattle.std.specs.Prelude.{Option, Some}
 use lib.Seq.{take-append_seam, drop-append_seam}
-use Rattle.wasmi_types.specs.declared.value.ValType.{ValType}
-use Rattle.wasmi_types.specs.declared.func_type.FuncTypeError.{FuncTypeError}
+use Rattle.wasmi_types.specs.declared.{value.ValType.ValType, func_type.FuncTypeError.FuncTypeError}
 use Rattle.wasmi_types.specs.declared.func_type.FuncTypeError.TheVariants.{TooManyFunctionResults}
 use Rattle.wasmi_types.specs.FunctionType.{FunctionType}
 use Rattle.wasmi_types.specs.Reading.{ReadsAll, IsReading, ReadsSome, IsOutOfMemory, IsRefusal, ReadsTypes, IsReadingRefusal, IsReadingOutOfMemory}

@@ -13,7 +13,7 @@ use Rattle.wasmi_types.specs.FunctionType.{FunctionType, entries, entry_count, s
 use denote.Enum.Bare.{sameb, same_true, true_same}
 use Rattle.wasmi_types.specs.contracts.value.ValType.{the_type}
 
--- the value type at a place
+-- the value type at a place, as an order key has it
 abbrev type_at : ℕ → ValType
 type_at n = slice_index_or (I32 ∷ I64 ∷ F32 ∷ F64 ∷ V128 ∷ FuncRef ∷ []) n ExternRef
 

@@ -1,10 +1,8 @@
 -- The number and the text of each trap code; what the reason of a trap carries, and its text.
 use Rattle.std.specs.Prelude.{◌≡◌, ℕ, ◌<◌, ◌⊎◌, List, Result, Ok, IsErr, codes, ◌++◌, Option, Some, None, ℤ, string_bytes}
-use Rattle.wasmi_types.specs.declared.trap.TrapCode.{TrapCode}
+use Rattle.wasmi_types.specs.declared.{trap.TrapCode.TrapCode, trap.InvalidTrapCode.InvalidTrapCode, trap.TrapReason.TrapReason}
 use Rattle.wasmi_types.specs.declared.trap.TrapCode.TheVariants.{UnreachableCodeReached, MemoryOutOfBounds, TableOutOfBounds, IndirectCallToNull, IntegerDivisionByZero, IntegerOverflow, BadConversionToInteger, StackOverflow, BadSignature, OutOfFuel, GrowthOperationLimited, OutOfSystemMemory}
-use Rattle.wasmi_types.specs.declared.trap.InvalidTrapCode.{InvalidTrapCode}
 use Rattle.std.specs.Fmt.{signed_decimal}
-use Rattle.wasmi_types.specs.declared.trap.TrapReason.{TrapReason}
 use Rattle.wasmi_types.specs.declared.trap.TrapReason.TheVariants.{InstructionTrap, I32Exit, Message, Host}
 
 -- the number that stands for a trap code

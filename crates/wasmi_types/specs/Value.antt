@@ -1,10 +1,8 @@
 -- Value types: which are number types and which are reference types. Address types: their value types and their widths.
 use Rattle.std.specs.Prelude.{Bool, true, false, Option, Some, None, ℕ}
-use Rattle.wasmi_types.specs.declared.value.ValType.{ValType}
+use Rattle.wasmi_types.specs.declared.{value.ValType.ValType, value.RefType.RefType, index_ty.IndexType.IndexType}
 use Rattle.wasmi_types.specs.declared.value.ValType.TheVariants.{I32, I64, F32, F64, FuncRef, ExternRef}
-use Rattle.wasmi_types.specs.declared.value.RefType.{RefType}
 use Rattle.wasmi_types.specs.declared.value.RefType.TheVariants.{Func, Extern}
-use Rattle.wasmi_types.specs.declared.index_ty.IndexType.{IndexType}
 use Rattle.wasmi_types.specs.declared.index_ty.IndexType.TheVariants as index
 use Rattle.wasmi_types.specs.declared.value.ValType.TheVariants as types
 

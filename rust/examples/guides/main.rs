@@ -34,11 +34,10 @@ mod bill {
         let before = left(machine);
         let replies = run_lending(machine, calls, &mut NoLimits)?;
         let after = left(machine);
-        writeln!(std::io::stdout(), "replies: {replies:?}")?;
+        let charged = before.saturating_sub(after);
         writeln!(
             std::io::stdout(),
-            "charged {}, left {after}",
-            before.saturating_sub(after)
+            "replies: {replies:?}\ncharged {charged}, left {after}"
         )
     }
 
@@ -75,23 +74,18 @@ mod growth {
 
     /// Grows a memory of bytes by more than the quota has left, then by less.
     pub fn main() -> Result<(), Box<dyn std::error::Error>> {
-        let mut quota = Quota::new(100, 0);
-        let mut fuel = Fuel::new(false, FuelCostsProvider::default());
         let mut builder = MemoryType::builder();
         builder.min(60).page_size_log2(0);
-        let mut memory = Memory::new_lending(builder.build()?, &mut quota)?;
-        for pages in [41, 40] {
-            writeln!(
-                std::io::stdout(),
-                "{:?}",
-                grow(&mut memory, pages, &mut fuel, &mut quota)
-            )?;
-        }
-        let bytes = memory.data().len();
+        let ty = builder.build()?;
+        let mut quota = Quota::new(100, 0);
+        let mut memory = Memory::new_lending(ty, &mut quota)?;
+        let mut fuel = Fuel::new(false, FuelCostsProvider::default());
+        let denied = grow(&mut memory, 41, &mut fuel, &mut quota);
+        let grown = grow(&mut memory, 40, &mut fuel, &mut quota);
+        let (bytes, held) = (memory.data().len(), quota.held_bytes());
         writeln!(
             std::io::stdout(),
-            "{bytes} bytes, held {}",
-            quota.held_bytes()
+            "{denied:?}\n{grown:?}\n{bytes} bytes, held {held}"
         )?;
         Ok(())
     }

@@ -18,11 +18,9 @@ pub mod access {
         impl<const N: usize> Sealed for [u8; N] {}
     }
 
-    /// A conversion to the low bits of a number, as many as `T` has. Upstream: `WrapInto`, private
-    /// there.
+    /// A conversion to the low bits of a number, as many as `T` has. Upstream: the private `WrapInto`.
     pub trait WrapInto<T: Number>: Number {
-        /// The number of `T` that differs from that of `self` by a multiple of 2 to the power of the
-        /// width of `T`.
+        /// The number of `T` that differs from `self` by a multiple of 2 to the power of `T`'s width.
         ///
         /// # Contract
         ///
@@ -182,8 +180,7 @@ pub mod access {
         /// As many bytes as the number has.
         type Bytes: Default + LoadInto + StoreFrom;
 
-        /// The bytes of `self`, the lowest first: those of its number modulo 2 to the power of its
-        /// width.
+        /// The bytes of `self`, lowest first: those of its number modulo 2 to the power of its width.
         ///
         /// # Contract
         ///

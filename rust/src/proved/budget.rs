@@ -65,8 +65,7 @@ mod error {
 
     impl core::error::Error for PoolError {}
 
-    /// Why a pool doesn't run a tenant's calls into memory that is kept for replies, in the order of the
-    /// tests.
+    /// Why a pool doesn't run a tenant's calls into memory kept for replies, in the order of the tests.
     #[derive(Debug, PartialEq, Eq)]
     pub enum RunIntoError {
         /// No tenant has the index.
@@ -252,8 +251,7 @@ pub mod laws {
     pub fn removed_stay_removed() {}
 }
 mod pool {
-    //! The pool: how machines are added, removed, run and reserved for within its caps, and what they
-    //! hold.
+    //! The pool: how machines are added, removed, run and reserved for within caps, and what they hold.
 
     use crate::proved::budget::error::{AddError, PoolError, ReserveError, RunIntoError};
     use crate::proved::budget::tenant::CountedMachine;
@@ -670,8 +668,7 @@ mod pool {
             Some(self.held(index)?.elements)
         }
 
-        /// The bytes of all memories and the elements of all tables of the tenants, including those
-        /// that they dropped.
+        /// The bytes of all memories and the elements of all tables of the tenants, also dropped ones.
         ///
         /// # Contract
         ///
@@ -703,8 +700,7 @@ mod pool {
     }
 }
 mod tenant {
-    //! One machine of a pool with the amounts that it has, the calls on it, and its limiter, the
-    //! tenant.
+    //! One machine of a pool with the amounts it has, the calls on it, and its limiter, the tenant.
 
     use crate::proved::machine::{
         Call, Machine, Replies, Reply, SlotCounts, TooManyCalls, run_into_lending, run_lending,
@@ -714,9 +710,8 @@ mod tenant {
     use crate::rattle::alloc::AllocError;
 
     /// The limiter of one machine of a pool: it permits what keeps all tenants together within the
-    /// caps, and denies the rest. It counts each difference that it permitted. At a notice it takes
-    /// back the last one if that is of the same kind, once. What the others hold stays the same while
-    /// its machine runs.
+    /// caps, and denies the rest. It counts each difference it permitted. At a notice it takes back the
+    /// last one if that is of the same kind, once. What the others hold stays while its machine runs.
     #[derive(Clone, Copy, Debug)]
     pub struct Tenant {
         caps: Amounts,
@@ -973,7 +968,7 @@ mod tenant {
         }
     }
 
-    /// Whether a reply is an error of a memory or a table, after which a machine has what it had.
+    /// Whether a reply is a memory's or table's error, after which a tenant's machine has what it had.
     ///
     /// # Contract
     ///
@@ -1075,8 +1070,7 @@ mod tenants {
         indices.binary_search(&index).ok()
     }
 
-    /// Machines at indices that are given in their order, each once. One that was removed keeps no
-    /// memory.
+    /// Machines at indices that are given in order, each once. One that was removed keeps no memory.
     ///
     /// # Model
     ///

@@ -236,8 +236,7 @@ invariant = λ m. IsSized m.ty (length m.buffer.bytes)
 
 Definitions: [`MemoryValue`](crate::specs::store::MemorySpecs#MemoryValue), [`memory_of`](crate::specs::store::MemorySpecs#memory_of), [`IsSized`](crate::specs::store::MemorySpecs#IsSized).
 "#### };
-    (store LinearMemory.copy) => { r####"Copies `len` bytes of another memory, from `src` on, over the bytes of a memory from `dst`
-on.
+    (store LinearMemory.copy) => { r####"Copies `len` bytes of another memory, from `src` on, over those of a memory from `dst` on.
 
 Core specification, memory.copy of two memories.
 
@@ -255,8 +254,7 @@ ensures: WritesMemoryRange (byte_copy_of dst src len src_memory.now.bytes)
 
 Definitions: [`WritesMemoryRange`](crate::specs::store::MemorySpecs#WritesMemoryRange), [`byte_copy_of`](crate::specs::store::MemorySpecs#byte_copy_of), [`metered`](crate::specs::store::GrowthSpecs#metered), [`meter_at_entry`](crate::specs::meter::MeterSpecs#meter_at_entry), [`meter_at_exit`](crate::specs::meter::MeterSpecs#meter_at_exit).
 "#### };
-    (store LinearMemory.copy_within) => { r####"Copies `len` bytes from `src` on over those from `dst` on. If the ranges overlap, the old
-bytes are copied.
+    (store LinearMemory.copy_within) => { r####"Copies `len` bytes from `src` on over those from `dst` on: the old ones if they overlap.
 
 Core specification, memory.copy within a memory.
 
@@ -307,8 +305,7 @@ ensures sized: IsSized self.now.ty result
 
 Definitions: [`IsSized`](crate::specs::store::MemorySpecs#IsSized).
 "#### };
-    (store LinearMemory.dynamic_ty) => { r####"The type that it was made with, with the present size as its minimum: a subtype of that
-type.
+    (store LinearMemory.dynamic_ty) => { r####"The type that it was made with, with the present size as its minimum: a subtype of it.
 
 # Contract
 
@@ -319,8 +316,7 @@ ensures subtype: IsSubtype result self.now.ty
 
 Definitions: [`dynamic_type`](crate::specs::store::MemorySpecs#dynamic_type), [`IsSubtype`](crate::specs::store::MemorySpecs#IsSubtype).
 "#### };
-    (store LinearMemory.fill) => { r####"Fills `len` bytes from `dst` on with a value. It is charged as a table's `fill`, by the
-bytes.
+    (store LinearMemory.fill) => { r####"Fills `len` bytes from `dst` on with a value. It is charged as a table's `fill`, by bytes.
 
 Core specification, memory.fill.
 
@@ -488,25 +484,19 @@ Definitions: [`WritesMemory`](crate::specs::store::MemorySpecs#WritesMemory).
 
 ```text
 Value = TableValue
-view = λ t. record {
-    ty = t.ty;
-    elements = t.elements.items;
-    reserved = t.reserved;
-    }
+view = λ t. record { ty = t.ty; elements = t.elements.items; reserved = t.reserved }
 invariant = λ t. IsSized t.ty (length t.elements.items)
     × (t.reserved ≤ vec_capacity t.elements)
 ```
 
 Definitions: [`TableValue`](crate::specs::store::TableSpecs#TableValue), [`IsSized`](crate::specs::store::TableSpecs#IsSized).
 "#### };
-    (store Table.copy) => { r####"Copies `len` elements of another table, from `src` on, over the elements of a table from
-`dst` on.
+    (store Table.copy) => { r####"Copies `len` elements of another table, from `src` on, over those of a table from `dst` on.
 
 # Errors
 
-In the order of the tests: [`ElementTypeMismatch`](crate::TableError::ElementTypeMismatch) if the tables are of two types;
-[`CopyOutOfBounds`](crate::TableError::CopyOutOfBounds) if a range ends past its table; [`OutOfFuel`](crate::TableError::OutOfFuel), which is tested also if no
-element is copied.
+In the order of the tests: [`ElementTypeMismatch`](crate::TableError::ElementTypeMismatch) if the types differ; [`CopyOutOfBounds`](crate::TableError::CopyOutOfBounds) if a
+range ends past its table; [`OutOfFuel`](crate::TableError::OutOfFuel), which is tested also if no element is copied.
 
 # Contract
 
@@ -518,8 +508,7 @@ ensures: WritesTable (copy_of dst src len src_table.now)
 
 Definitions: [`WritesTable`](crate::specs::store::TableSpecs#WritesTable), [`copy_of`](crate::specs::store::TableSpecs#copy_of), [`metered`](crate::specs::store::GrowthSpecs#metered), [`meter_at_entry`](crate::specs::meter::MeterSpecs#meter_at_entry), [`meter_at_exit`](crate::specs::meter::MeterSpecs#meter_at_exit).
 "#### };
-    (store Table.copy_within) => { r####"Copies `len` elements from `src` on over those from `dst` on. If the ranges overlap, the old
-elements are copied.
+    (store Table.copy_within) => { r####"Copies `len` elements from `src` on over those from `dst` on: the old ones if they overlap.
 
 # Errors
 
@@ -536,8 +525,7 @@ ensures: WritesTable (copy_of dst src len self.old)
 
 Definitions: [`WritesTable`](crate::specs::store::TableSpecs#WritesTable), [`copy_of`](crate::specs::store::TableSpecs#copy_of), [`metered`](crate::specs::store::GrowthSpecs#metered), [`meter_at_entry`](crate::specs::meter::MeterSpecs#meter_at_entry), [`meter_at_exit`](crate::specs::meter::MeterSpecs#meter_at_exit).
 "#### };
-    (store Table.dynamic_ty) => { r####"The type that it was made with, with the present size as its minimum: a subtype of that
-type.
+    (store Table.dynamic_ty) => { r####"The type that it was made with, with the present size as its minimum: a subtype of it.
 
 # Contract
 
@@ -595,8 +583,7 @@ Definitions: [`element_at`](crate::specs::store::TableSpecs#element_at).
 
 # Errors
 
-[`ElementTypeMismatch`](crate::TableError::ElementTypeMismatch) if the reference is of another type, also in a growth by 0; then those
-of `grow_raw`.
+[`ElementTypeMismatch`](crate::TableError::ElementTypeMismatch) if the type differs, also in a growth by 0; then those of `grow_raw`.
 
 # Contract
 
@@ -696,8 +683,7 @@ ensures: SetsTable index value self.old result self.new
 
 Definitions: [`SetsTable`](crate::specs::store::TableSpecs#SetsTable).
 "#### };
-    (store Table.set_raw) => { r####"Sets the element at an index. The type of the reference isn't tested: that is up to the
-caller.
+    (store Table.set_raw) => { r####"Sets the element at an index. The reference's type isn't tested: that is up to the caller.
 
 # Errors
 

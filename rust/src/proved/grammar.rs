@@ -1173,8 +1173,7 @@ mod script {
     ///
     /// # Errors
     ///
-    /// [`BadCommand`](crate::grammar::ParseError::BadCommand) with the first line that is no command; [`OutOfMemory`](crate::grammar::ParseError::OutOfMemory) if memory for the script is
-    /// refused.
+    /// [`BadCommand`](crate::grammar::ParseError::BadCommand) with the first line that is no command; [`OutOfMemory`](crate::grammar::ParseError::OutOfMemory) if memory is refused.
     ///
     /// # Contract
     ///

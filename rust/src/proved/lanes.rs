@@ -665,7 +665,7 @@ mod lanes {
         pub(crate) items: [T; N],
     }
 
-    // All ones where `holds`, else all zeros.
+    // The item of a comparison of lanes: all ones where the test holds, else all zeros.
     /// # Contract
     ///
     /// ```text
@@ -923,8 +923,7 @@ mod lanes {
         }
     }
 
-    /// Lanes that are made of narrower ones, of which there are twice as many. Upstream:
-    /// `simd::FromNarrow`.
+    /// Lanes made of narrower ones, of which there are twice as many. Upstream: `simd::FromNarrow`.
     pub trait FromNarrow<S: FromWide<Self>>: Lanes {
         /// Lane i is made of the narrow lanes 2i and 2i + 1.
         ///
@@ -1129,8 +1128,7 @@ pub mod laws {
         L::from_v128(lanes.into_v128())
     }
 
-    /// Lane i of a vector that is made of lanes is the number of lane i, wrapped to the width of the
-    /// lanes.
+    /// Lane i of a vector made of lanes is the number of lane i, wrapped to the width of the lanes.
     ///
     /// # Contract
     ///
@@ -1233,8 +1231,7 @@ pub mod laws {
     }
 }
 pub mod on_vectors {
-    //! Lane by lane work on whole vectors: each function gives the vector of whatever row its closure
-    //! computes.
+    //! Work on whole vectors lane by lane: each gives the vector of whatever row its closure computes.
 
     use crate::proved::lanes::lanes::Lanes;
     use crate::proved::raw::V128;
@@ -1352,8 +1349,7 @@ mod simd_lane {
         /// Definitions: [`lane_count`](crate::specs::lanes::VectorSpecs#lane_count), [`lane`](crate::specs::lanes::VectorSpecs#lane).
         fn vector_of(items: Self::Vector) -> V128;
 
-        /// The lanes moved by half of their range, so that as unsigned numbers they stand in the order
-        /// of the signed ones.
+        /// The lanes moved by half their range: unsigned, they stand in the order of the signed ones.
         ///
         /// # Contract
         ///
@@ -1589,8 +1585,7 @@ mod simd_lane {
     //
     // An array of the lanes would go through memory (docs/SPEED.md): the bytes of a lane are picked by
     // their indices, and a lane is put where the number of a lane is the index. What is made of the
-    // index comes from tables, since what a general register makes has to go from there to a vector
-    // register.
+    // index comes from tables, since what a general register makes has to go to a vector register.
 
     /// An unsigned integer as which one lane of a vector is taken out or put in, at an index that is
     /// known only when the program runs. Core specification: `extract_lane`, `replace_lane`.

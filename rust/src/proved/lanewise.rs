@@ -38,8 +38,7 @@ pub mod shift {
     use crate::proved::raw::V128;
     use crate::rattle::simd::prelude::*;
 
-    /// The lanes shifted to the left, the bits above each lane dropped. `amount` is taken modulo their
-    /// width.
+    /// The lanes shifted left, the bits above each lane dropped. `amount` is taken modulo their width.
     ///
     /// # Contract
     ///
@@ -146,8 +145,7 @@ pub mod simd {
     //! type is in `order` and `words`.
 
     mod order {
-        //! Comparisons of lanes by their order, and the smaller or larger ones of lanes, on vectors of
-        //! `core::simd`.
+        //! Comparisons of lanes by order, and the smaller or larger of lanes, on vectors of `core::simd`.
         //!
         //! Lanes that are read signed are moved by half of their range, and then compared as unsigned ones.
 
@@ -474,8 +472,7 @@ pub mod simd {
 
         // The vector of two words of which each lane is 0 or its highest bit alone, those with the bit
         // filled with ones: twice the bit, which is the bit above the lane, less the lane's lowest. Of
-        // plain words LLVM would take two vectors a turn of a loop, and regroup their words before and
-        // after.
+        // plain words LLVM would take two vectors a turn of a loop, and regroup words before and after.
         /// # Contract
         ///
         /// ```text
@@ -517,8 +514,7 @@ pub mod simd {
             )
         }
 
-        // The averages on one word: common bits and half of the others, which never borrow from the lane
-        // below.
+        // The averages on a word: common bits and half the others, which never borrow from the lane below.
         /// # Contract
         ///
         /// ```text
@@ -1092,8 +1088,7 @@ pub mod simd {
         u16::vector_of(u16::lanes_of(lhs).saturating_sub(u16::lanes_of(rhs)))
     }
 
-    /// The products of the lanes as q15 numbers (signed, over 2 to the power 15), rounded and clamped
-    /// to the signed range.
+    /// The lanes' products as q15 numbers (signed, over 2^15), rounded and clamped to the signed range.
     ///
     /// Twice the upper half of a product and its rounded lower half: each half is one instruction.
     ///

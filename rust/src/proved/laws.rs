@@ -1,5 +1,6 @@
-//! Laws over the turns and runs of a machine, its meter and its indices, and over the tenants of a
-//! pool, in the order of the README: each function does nothing, and states a law as its contract.
+//! Laws over the turns and runs of a machine, besides those of `wasmi_machine::laws`, over its
+//! meter and its indices, and over the tenants of a pool, in the order of the README: each function
+//! does nothing, and states a law as its contract.
 
 use crate::proved::machine::laws;
 use crate::proved::meter::{Quota, ResourceLimiter};

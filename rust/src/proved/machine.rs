@@ -1,5 +1,4 @@
-//! A machine that runs lists of calls on metered WebAssembly memories and tables under a resource
-//! limiter.
+//! A machine that runs lists of calls on metered WebAssembly memories and tables under a limiter.
 mod calls {
     //! The calls on a machine, the replies to them, and the bytes that a reply has (`ByteList`). They
     //! are our own: upstream leaves running to the interpreter.
@@ -77,8 +76,7 @@ mod calls {
             value: RawVal,
         },
         /// Fills `len` bytes of a memory with a byte, from `dst` on: `Done`, or `Memory` with
-        /// `OutOfBoundsAccess` if they end past the memory, then `OutOfFuel`, which is tested also for
-        /// no byte.
+        /// `OutOfBoundsAccess` if they end past it, then `OutOfFuel`, which is tested also for no byte.
         FillMemory {
             memory: usize,
             dst: u64,
@@ -87,8 +85,7 @@ mod calls {
         },
         /// Copies `len` bytes of a memory, from `src` on, over those of another or of itself from `dst`
         /// on: `Done`, or `Memory` with `OutOfBoundsAccess` if a range ends past its memory, then
-        /// `OutOfFuel`, which is tested also for no byte. If ranges of one memory overlap, the old
-        /// bytes are copied.
+        /// `OutOfFuel`, which is tested also for no byte. If ranges overlap, the old bytes are copied.
         CopyMemory {
             dst_memory: usize,
             dst: u64,
@@ -149,9 +146,8 @@ mod calls {
             len: u64,
         },
         /// Fills `len` elements of a table with a reference, from `dst` on: `Done`, or `Table` with
-        /// `ElementTypeMismatch` if the reference isn't of the type of the elements, then
-        /// `FillOutOfBounds` if they end past the table, then `OutOfFuel`, which is tested also for no
-        /// element.
+        /// `ElementTypeMismatch` if the reference isn't of the elements' type, then `FillOutOfBounds`
+        /// if they end past the table, then `OutOfFuel`, which is tested also for no element.
         FillTable {
             table: usize,
             dst: u64,
@@ -350,8 +346,7 @@ mod calls {
         NoSuch,
         /// There is no spare region; nothing was asked or changed.
         NoRegion,
-        /// Memory for a slot, for the bytes of a data segment or for the reply was refused; nothing was
-        /// asked or changed.
+        /// Memory for a slot, a segment's bytes or the reply was refused; nothing was asked or changed.
         NoRoom,
     }
 
@@ -416,8 +411,7 @@ mod data {
     use crate::rattle::alloc::AllocError;
     use crate::rattle::{SliceExt, Vec};
 
-    /// A data segment: the bytes that `Call::InitMemory` copies to a memory. Once they are dropped it
-    /// has none.
+    /// A data segment: the bytes that `Call::InitMemory` copies to a memory. Once dropped it has none.
     ///
     /// Core specification, data instances.
     ///
@@ -508,8 +502,10 @@ mod data {
 }
 #[cfg(any(doc, test))]
 pub mod laws {
-    //! What holds of all runs. These functions do nothing: each states a law as its contract, for any
-    //! limiter, of which a run may also have none.
+    //! What holds of all turns and runs, and is continued in `wasmi_laws`: runs in a row, what refusals
+    //! keep, permissions, charges, validity, quotas and totals, lent regions, and runs that are equal.
+    //! These functions do nothing: each states a law as its contract, for any limiter, of which a run
+    //! may also have none.
     //!
     //! Own: upstream states no laws.
 
@@ -1199,8 +1195,7 @@ mod machine {
     }
 }
 mod memories {
-    //! What calls do to the memories of a machine, by their indices, and the replies to calls on
-    //! memories.
+    //! What calls do to the memories of a machine, by their indices, and the replies to these calls.
 
     use crate::proved::machine::calls::{ByteList, Reply};
     use crate::proved::machine::data::copy_of_bytes;
@@ -1245,8 +1240,7 @@ mod memories {
             }
         }
 
-        /// Makes a memory in the spare region, in a new slot, which is reserved before the limiter is
-        /// asked.
+        /// Makes a memory in the spare region, in a new slot, reserved before the limiter is asked.
         ///
         /// # Contract
         ///
@@ -1469,8 +1463,8 @@ mod memories {
         Lane(StoreLaneOp, V128),
     }
 
-    /// A part of a list of bytes: its bounds are tested before the reply's buffer is allocated. No byte
-    /// takes no memory.
+    /// The reply to a read of a memory's bytes: the bounds are tested before its buffer is allocated.
+    /// No byte takes no memory.
     ///
     /// # Contract
     ///
@@ -1642,8 +1636,7 @@ mod registers {
     }
 }
 mod replies {
-    //! Memory for replies that is kept from run to run, and the error of a run for which it is too
-    //! small.
+    //! Memory for replies, kept from run to run, and the error of a run for which it is too small.
 
     use crate::proved::machine::calls::Reply;
     use crate::rattle::Vec;
@@ -1657,10 +1650,7 @@ mod replies {
     ///
     /// ```text
     /// Value = RepliesValue
-    /// view = λ r. record {
-    ///     items = r.replies.items;
-    ///     capacity = vec_capacity r.replies;
-    ///     }
+    /// view = λ r. record { items = r.replies.items; capacity = vec_capacity r.replies }
     /// ```
     ///
     /// Definitions: [`RepliesValue`](crate::specs::machine::RepliesSpecs#RepliesValue).
@@ -1877,8 +1867,7 @@ mod running {
     ///
     /// # Errors
     ///
-    /// `AllocError` if memory for the replies, which is allocated first, is refused; then nothing has
-    /// happened.
+    /// `AllocError` if memory for the replies, allocated first, is refused; then nothing has happened.
     ///
     /// # Contract
     ///
@@ -1909,8 +1898,7 @@ mod running {
         Ok(replies)
     }
 
-    /// Executes calls, as `run`, but borrows the limiter for this run alone, so that its state
-    /// afterwards is known.
+    /// Executes calls, as `run`, but only borrows the limiter, so its state afterwards is known.
     ///
     /// # Errors
     ///
@@ -1986,8 +1974,7 @@ mod running {
     ///
     /// # Errors
     ///
-    /// `TooManyCalls` if there are more calls than the capacity of `replies`; then nothing has
-    /// happened.
+    /// `TooManyCalls` for more calls than the capacity of `replies`; then nothing has happened.
     ///
     /// # Contract
     ///
@@ -2025,8 +2012,7 @@ mod running {
         Ok(())
     }
 
-    /// Executes calls, as `run_into`, but borrows the limiter for this run alone, so that its state
-    /// afterwards is known.
+    /// Executes calls, as `run_into`, but only borrows the limiter, so its state afterwards is known.
     ///
     /// # Errors
     ///
@@ -2376,11 +2362,8 @@ mod slots {
     ///
     /// ```text
     /// Value = ReservedListValue T
-    /// view = λ list. record {
-    ///     items = list.items.items;
-    ///     reserved = list.reserved;
-    ///     capacity = vec_capacity list.items;
-    ///     }
+    /// view = λ list. record
+    ///     { items = list.items.items; reserved = list.reserved; capacity = vec_capacity list.items }
     /// invariant = λ list. list.reserved ≤ vec_capacity list.items
     /// ```
     ///
@@ -2520,8 +2503,7 @@ mod slots {
     }
 }
 mod store {
-    //! The store of a machine: what was made, the registers and the meter, and what each call does to
-    //! them.
+    //! The store of a machine: what was made, registers and meter, and what each call does to them.
 
     use crate::proved::machine::calls::{Call, Reply};
     use crate::proved::machine::data::DataSegment;
@@ -2898,8 +2880,7 @@ mod store {
             }
         }
 
-        /// Executes one load or store of a vector, which doesn't reach the limiter: only the contract
-        /// names `L`.
+        /// Executes one load or store of a vector, which asks no limiter: only the contract names `L`.
         ///
         /// # Contract
         ///
@@ -3210,9 +3191,8 @@ mod tables {
     }
 }
 mod values {
-    //! The element segments, data segments and globals of a machine, by their indices. These are
-    //! functions of one list of the store each, so that what else the store has stays out of their
-    //! contracts.
+    //! The element segments, data segments and globals of a machine, by their indices: functions of one
+    //! list of the store each, so that what else the store has stays out of their contracts.
 
     use crate::proved::machine::calls::Reply;
     use crate::proved::machine::data::DataSegment;
@@ -3326,7 +3306,7 @@ mod values {
         add_item(globals, Global::new(value, ty))
     }
 
-    /// Adds an item to a list, unless memory for its place is refused.
+    /// Adds a data segment or a global to its list, unless memory for its place is refused.
     ///
     /// # Contract
     ///

@@ -278,8 +278,7 @@ mod error {
         MaximumSizeOverflow,
         /// The limiter denied a creation, or returned an error to a question or a notice.
         ResourceLimiterDeniedAllocation,
-        /// A growth above the greatest number of elements or the maximum, or one that the limiter
-        /// denies.
+        /// A growth above the greatest number of elements or the maximum, or that the limiter denies.
         GrowOutOfBounds,
         /// An initialization that ends past the table or the element segment.
         InitOutOfBounds,
@@ -398,8 +397,7 @@ mod error {
     }
 }
 mod fuel {
-    //! Fuel meters, what work costs in fuel, which a host may choose, and why a call on a meter is
-    //! refused.
+    //! Fuel meters, what work costs, which a host may choose, and why a call on a meter is refused.
 
     use crate::proved::raw::RawRef;
     use core::fmt;
@@ -849,8 +847,7 @@ mod fuel {
             self.consume_fuel_unchecked(delta)
         }
 
-        /// Consumes the fuel that `f` computes from the costs if the meter is on. If it is off, `f`
-        /// isn't called.
+        /// Consumes the fuel that `f` computes from the costs; if the meter is off, `f` isn't called.
         ///
         /// # Errors
         ///
@@ -1118,8 +1115,7 @@ mod limiter {
     #[doc = examples!(meter LimiterByKind)]
     pub trait LimiterByKind {
         /// May something of this kind grow from `current` to `desired`, in bytes or elements? The
-        /// answers have the meaning that they have for a [`ResourceLimiter`]: `Ok(true)` permits, and
-        /// nothing else does.
+        /// answers mean what they mean for a [`ResourceLimiter`]: only `Ok(true)` permits.
         ///
         /// # Errors
         ///
@@ -1140,8 +1136,7 @@ mod limiter {
             desired: usize,
         ) -> Result<bool, LimiterError>;
 
-        /// Something of this kind was permitted to grow and did not. After `Ok(())` the call returns
-        /// its error.
+        /// A permitted growth of this kind failed. After `Ok(())` the call returns its error.
         ///
         /// # Errors
         ///
@@ -1588,8 +1583,7 @@ mod quota {
         }
     }
 
-    /// What a limiter with caps holds of each kind, and the last difference that it took and didn't
-    /// give back.
+    /// What a limiter with caps holds of each kind, and the last difference taken and not given back.
     #[derive(Clone, Copy, Debug)]
     pub struct Holdings {
         held: Amounts,
@@ -1728,7 +1722,7 @@ mod quota {
     /// # Contract
     ///
     /// ```text
-    /// -- What it holds of each kind, and the last difference that it permitted and that wasn't given back.
+    /// -- What it holds of each kind, and the last difference it permitted that wasn't given back.
     /// holdings: Self → Holdings
     /// -- A permission adds the difference that was asked for; any other answer leaves what is held.
     /// reserves: (l l' : Self) (question : Question) (answer : Answer)

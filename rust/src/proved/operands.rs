@@ -26,7 +26,7 @@ mod error {
     }
 }
 pub mod lane {
-    //! The instructions on one lane, by two words: their names, and the lane's index.
+    //! The instructions on one lane, by two words: a name, and the lane's index.
 
     use crate::proved::operands::error::LineError;
     use crate::proved::operands::operand::Operand;
@@ -101,7 +101,8 @@ pub mod lane {
 }
 pub mod operand {
     //! The words of a line, and what they write: numbers, types, references, a limiter's answers and
-    //! the names of instructions, by one word, by as many as a command has, or as a list.
+    //! the names of instructions, also of those on one lane, by one word, by as many as a command has,
+    //! or as a list.
 
     use crate::proved::lanes::ImmLaneIdx32;
     use crate::proved::meter::LimiterAnswer;

@@ -43,7 +43,7 @@ mod load_store {
     }
 
     macro_rules! loads {
-    ($make:ident! $($with:tt)*) => { $make! { [$($with)*] accesses [?.into()] {
+    ($make:ident! $($with:tt)*) => { $make! { [$($with)*] accesses [.map(RawVal::from)] {
         I32Load8S i32_load8_s, I32Load8U i32_load8_u,
         I32Load16S i32_load16_s, I32Load16U i32_load16_u,
         I64Load8S i64_load8_s, I64Load8U i64_load8_u,
@@ -91,7 +91,7 @@ mod load_store {
         /// Definitions: [`loaded_raw`](crate::specs::ops::LoadStoreOpsSpecs#loaded_raw).
         #[inline(always)]
         fn load_front(self, bytes: &[u8]) -> Result<RawVal, TrapCode> {
-            Ok(loads!(calls! self(bytes, 0, 0)))
+            loads!(calls! self(bytes, 0, 0))
         }
     }
 

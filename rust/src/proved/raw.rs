@@ -1,5 +1,4 @@
-//! Raw values: what a register, a local or a global variable of WebAssembly holds, whatever its
-//! type.
+//! Raw values: what a register, local or global variable of WebAssembly holds, whatever its type.
 mod convert {
     //! Conversions (`From`) into and from raw values, of integers, `bool`, floats and vectors.
 
@@ -518,8 +517,7 @@ mod raw {
     /// read_back: Self → Self.Read
     /// ```
     pub trait ReadBack {
-        /// The type that is read after a `Self` was written: of a `NonZero` its integer type, else
-        /// `Self`.
+        /// The type that is read after a `Self` was written: a `NonZero`'s integer type, else `Self`.
         type Read;
     }
 
@@ -556,7 +554,8 @@ mod raw {
     pub trait OneWord: ReadBack {}
 }
 mod raw_ref {
-    //! Raw references: what an element of a table holds, whatever its type, and its conversions.
+    //! Raw references: what an element of a table holds, whatever its type, its conversions, and how it
+    //! is read and written.
 
     use crate::proved::raw::raw::{OneWord, RawVal, ReadAs, ReadBack, WriteAs};
 
@@ -685,7 +684,7 @@ mod raw_ref {
 }
 mod read_write {
     //! Reading and writing a raw value, and what is read after a write: the implementations of the
-    //! traits, type by type.
+    //! traits, type by type, except for references.
 
     use crate::proved::raw::number::Number;
     use crate::proved::raw::raw::{OneWord, RawVal, ReadAs, ReadBack, WriteAs};

@@ -7,8 +7,7 @@ pub mod laws {
 
     use crate::proved::meter::ResourceLimiter;
 
-    /// A creation of a table on a region of at least its minimum takes no memory: the limiter alone can
-    /// refuse it.
+    /// A table on a region of at least its minimum takes no memory: the limiter alone can refuse it.
     ///
     /// # Contract
     ///
@@ -426,7 +425,8 @@ pub mod memory {
 pub mod table {
     //! Tables whose elements are the first of a region of references. The caller keeps a table's type
     //! and its size, and passes them to each call with the region or with the elements; the rest of the
-    //! region is room to grow in place. A reference is a number, whose type is the caller's matter.
+    //! region is room to grow in place. What a growth asks a limiter. A reference is a number, whose
+    //! type is the caller's matter.
     //!
     //! Own: upstream's table owns its elements.
 
@@ -710,8 +710,7 @@ pub mod table {
         copy_items(elements, dst, items, src, len, outside, fuel)
     }
 
-    /// Copies `len` items of the type of a table's elements, from `src` on, over the elements from
-    /// `dst` on.
+    /// Copies `len` items of the type of a table's elements, from `src` on, over those from `dst` on.
     ///
     /// # Errors
     ///

@@ -127,8 +127,7 @@ pub mod value {
         /// Definitions: [`ishr_u`](crate::specs::scalar::NumericsSpecs#ishr_u).
         fn shr_u(lhs: Self::Uint, rhs: Self::Uint) -> Self::Uint;
 
-        /// Rotates to the left by `rhs` modulo the width: the bits that leave at the top come in at the
-        /// bottom.
+        /// Rotates left by `rhs` modulo the width: bits that leave at the top come in at the bottom.
         ///
         /// # Contract
         ///
@@ -139,8 +138,7 @@ pub mod value {
         /// Definitions: [`irotl`](crate::specs::scalar::NumericsSpecs#irotl).
         fn rotl(lhs: Self, rhs: Self) -> Self;
 
-        /// Rotates to the right by `rhs` modulo the width: the bits that leave at the bottom come in at
-        /// the top.
+        /// Rotates right by `rhs` modulo the width: bits that leave at the bottom come in at the top.
         ///
         /// # Contract
         ///

@@ -233,7 +233,7 @@ mod lines {
 }
 mod printing {
     //! The lines that a replay prints, by its outcome: the script with what its run has given, the
-    //! words of a reply, what is held, and the printer, which sends texts to a writer.
+    //! words of a reply (`Wording`), what is held, and the printer, which sends texts to a writer.
 
     use crate::proved::budget::Pool;
     use crate::proved::grammar::Script;
@@ -403,7 +403,7 @@ mod printing {
         printer.print("\n")
     }
 
-    /// The bytes of a reply: none unless some were read.
+    /// The bytes that are printed of a reply: none unless some were read.
     ///
     /// # Contract
     ///
@@ -1321,8 +1321,7 @@ mod replaying {
         Ok(Ran { replies, held })
     }
 
-    /// A pool of new machines with the meter and the reserved slots of the header, under the caps of the
-    /// line.
+    /// A pool of new machines with the header's meter and reserved slots, under the caps of the line.
     ///
     /// # Contract
     ///

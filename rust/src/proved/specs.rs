@@ -24,12 +24,10 @@ use Rattle.std.specs.Cmp.Lexicographic.{pointwise, slice_cmp}
 use Rattle.std.specs.Hash.{slice}
 use Rattle.std.specs.Ordering.{nat_cmp, on}
 use Rattle.std.specs.declared.cmp.Ordering.{Ordering}
-use Rattle.wasmi_types.specs.declared.value.ValType.{ValType}
+use Rattle.wasmi_types.specs.declared.{value.ValType.ValType, func_type.Kept.Kept, func_type.FuncTypeError.FuncTypeError}
 use Rattle.wasmi_types.specs.declared.value.ValType.TheVariants.{I32, I64, F32, F64, V128, FuncRef, ExternRef}
 use Rattle.std.specs.Rc.{rc_slice_items}
-use Rattle.wasmi_types.specs.declared.func_type.Kept.{Kept}
 use Rattle.wasmi_types.specs.declared.func_type.Kept.TheVariants.{Inline, Big}
-use Rattle.wasmi_types.specs.declared.func_type.FuncTypeError.{FuncTypeError}
 use Rattle.wasmi_types.specs.declared.func_type.FuncTypeError.TheVariants.{TooManyFunctionParams, TooManyFunctionResults, OutOfMemory}
 
 -- the parameters and the results of a function
@@ -119,7 +117,7 @@ use Rattle.wasmi_types.specs.FunctionType.{<a href="../../types/FunctionTypeSpec
 use denote.Enum.Bare.{sameb, same_true, true_same}
 use Rattle.wasmi_types.specs.contracts.value.ValType.{the_type}
 
--- the value type at a place
+-- the value type at a place, as an order key has it
 abbrev <b id="type_at">type_at</b> : ℕ → ValType
 <a href="../../types/FunctionTypeProofsSpecs/index.html#type_at">type_at</a> n = slice_index_or (I32 ∷ I64 ∷ F32 ∷ F64 ∷ V128 ∷ FuncRef ∷ []) n ExternRef
 
@@ -219,8 +217,7 @@ abbrev pub <b id="le_bytes">le_bytes</b> : ℕ → ℕ → List ℕ
 <pre><code>use Rattle.std.specs.Prelude.{◌≡◌, ℕ, ◌≤◌, List, length, Option, Some, None, ◌⊎◌, ◌+◌, ◌&lt;◌, Bool, true, false, [], ◌∷◌, ◌++◌, Result, Ok, Err}
 use Rattle.std.specs.Iterator.{YieldsThen, Yields}
 use Rattle.std.specs.declared.alloc.AllocError.{AllocError}
-use Rattle.wasmi_types.specs.declared.value.ValType.{ValType}
-use Rattle.wasmi_types.specs.declared.func_type.FuncTypeError.{FuncTypeError}
+use Rattle.wasmi_types.specs.declared.{value.ValType.ValType, func_type.FuncTypeError.FuncTypeError}
 use Rattle.wasmi_types.specs.declared.func_type.FuncTypeError.TheVariants.{TooManyFunctionParams, TooManyFunctionResults, OutOfMemory}
 use Rattle.wasmi_types.specs.FunctionType.{<a href="../../types/FunctionTypeSpecs/index.html#FunctionType">FunctionType</a>}
 
@@ -316,11 +313,9 @@ pub record <b id="IsReadingOf">IsReadingOf</b> {X Y P R : Type 0} (params_become
     #[doc = r####"The number and the text of each trap code; what the reason of a trap carries, and its text.
 
 <pre><code>use Rattle.std.specs.Prelude.{◌≡◌, ℕ, ◌&lt;◌, ◌⊎◌, List, Result, Ok, IsErr, codes, ◌++◌, Option, Some, None, ℤ, string_bytes}
-use Rattle.wasmi_types.specs.declared.trap.TrapCode.{TrapCode}
+use Rattle.wasmi_types.specs.declared.{trap.TrapCode.TrapCode, trap.InvalidTrapCode.InvalidTrapCode, trap.TrapReason.TrapReason}
 use Rattle.wasmi_types.specs.declared.trap.TrapCode.TheVariants.{UnreachableCodeReached, MemoryOutOfBounds, TableOutOfBounds, IndirectCallToNull, IntegerDivisionByZero, IntegerOverflow, BadConversionToInteger, StackOverflow, BadSignature, OutOfFuel, GrowthOperationLimited, OutOfSystemMemory}
-use Rattle.wasmi_types.specs.declared.trap.InvalidTrapCode.{InvalidTrapCode}
 use Rattle.std.specs.Fmt.{signed_decimal}
-use Rattle.wasmi_types.specs.declared.trap.TrapReason.{TrapReason}
 use Rattle.wasmi_types.specs.declared.trap.TrapReason.TheVariants.{InstructionTrap, I32Exit, Message, Host}
 
 -- the number that stands for a trap code
@@ -390,11 +385,9 @@ abbrev pub <b id="text_of">text_of</b> : {H : Type 0} → (H → Option (List �
     #[doc = r####"Value types: which are number types and which are reference types. Address types: their value types and their widths.
 
 <pre><code>use Rattle.std.specs.Prelude.{Bool, true, false, Option, Some, None, ℕ}
-use Rattle.wasmi_types.specs.declared.value.ValType.{ValType}
+use Rattle.wasmi_types.specs.declared.{value.ValType.ValType, value.RefType.RefType, index_ty.IndexType.IndexType}
 use Rattle.wasmi_types.specs.declared.value.ValType.TheVariants.{I32, I64, F32, F64, FuncRef, ExternRef}
-use Rattle.wasmi_types.specs.declared.value.RefType.{RefType}
 use Rattle.wasmi_types.specs.declared.value.RefType.TheVariants.{Func, Extern}
-use Rattle.wasmi_types.specs.declared.index_ty.IndexType.{IndexType}
 use Rattle.wasmi_types.specs.declared.index_ty.IndexType.TheVariants as index
 use Rattle.wasmi_types.specs.declared.value.ValType.TheVariants as types
 
@@ -449,8 +442,7 @@ abbrev pub <b id="number_of_bits">number_of_bits</b> : Bool → Width → ℕ �
 <a href="../../raw/NumberSpecs/index.html#number_of_bits">number_of_bits</a> true w n = cast_signed w n
 <a href="../../raw/NumberSpecs/index.html#number_of_bits">number_of_bits</a> false w n = pos n
 
--- a type&#x27;s values and their numbers: `number` gives the number of a value, `of_number` the value of a number of the
--- type
+-- a type&#x27;s values and their numbers: `number` gives that of a value, `of_number` the value of a number of the type
 pub record <b id="AreNumbers">AreNumbers</b> {Value : Type 0} (<a href="../../raw/NumberSpecs/index.html#is_signed">is_signed</a> : Bool) (<a href="../../raw/NumberSpecs/index.html#width">width</a> : Width) (<a href="../../raw/NumberSpecs/index.html#number">number</a> : Value → ℤ)
     (<a href="../../raw/NumberSpecs/index.html#of_number">of_number</a> : ℤ → Value) : Type 0 where
   pub <b id="of_its_number">of_its_number</b> : (value : Value) → <a href="../../raw/NumberSpecs/index.html#of_number">of_number</a> (<a href="../../raw/NumberSpecs/index.html#number">number</a> value) ≡ value
@@ -549,9 +541,7 @@ pub mod typed {
 use Rattle.std.specs.Borrow.{Lends, MutBor, Fml}
 use Rattle.wasmi_raw.specs.declared.raw.RawVal.{RawVal}
 use Rattle.wasmi_raw.specs.contracts.raw.RawVal as raw
-use Rattle.wasmi_typed.specs.declared.typed.TypedRawVal.{TypedRawVal}
-use Rattle.wasmi_typed.specs.declared.global.Global.{Global}
-use Rattle.wasmi_typed.specs.declared.global.GlobalError.{GlobalError}
+use Rattle.wasmi_typed.specs.declared.{typed.TypedRawVal.TypedRawVal, global.Global.Global, global.GlobalError.GlobalError}
 use Rattle.wasmi_typed.specs.declared.global.GlobalError.TheVariants.{ImmutableWrite, TypeMismatch}
 use Rattle.wasmi_typed.specs.declared.global.Mutability.TheVariants.{Const, Var}
 use Rattle.wasmi_typed.specs.contracts.global.Global.{the_row}
@@ -589,9 +579,7 @@ abbrev pub <b id="global_error_text">global_error_text</b> : GlobalError → Lis
 use Rattle.std.specs.Int.{w32, int_rem_euclid}
 use Rattle.wasmi_types.specs.Value.{<a href="../../types/ValueSpecs/index.html#reference_of">reference_of</a>}
 use Rattle.wasmi_raw.specs.RawVal.{<a href="../../raw/RawValSpecs/index.html#unsigned_in">unsigned_in</a>}
-use Rattle.wasmi_typed.specs.declared.typed.TypedRawVal.{TypedRawVal}
-use Rattle.wasmi_typed.specs.declared.typed_ref.TypedRawRef.{TypedRawRef}
-use Rattle.wasmi_typed.specs.declared.typed_ref.NotAReference.{NotAReference}
+use Rattle.wasmi_typed.specs.declared.{typed.TypedRawVal.TypedRawVal, typed_ref.TypedRawRef.TypedRawRef, typed_ref.NotAReference.NotAReference}
 
 -- the answer is the reference that a typed raw value is, or the error where its type is none of references
 abbrev pub <b id="IsReference">IsReference</b> : TypedRawVal → Result TypedRawRef NotAReference → Type 0
@@ -1251,7 +1239,7 @@ pub <b id="u32x4_widened">u32x4_widened</b> : <a href="../../widening/WideningPr
 </code></pre>
 "####]
     pub mod WideningProofsSpecs {}
-    #[doc = r####"The vector instructions (core specification, "Numerics") that widen, narrow or test lanes, and the relaxed ones, by their lanes.
+    #[doc = r####"Vector instructions (core specification, "Numerics") that widen, narrow or test lanes, and relaxed ones, by lanes.
 
 <pre><code>use Rattle.std.specs.Prelude.{ℕ, zero, suc, ◌+◌, ◌-◌, ◌*◌, Bool, true, ◌&amp;&amp;◌, nat_lt, if◌then◌else◌, ◌^◌, not, nat_eq, nat_le, ◌+ℤ◌, ◌*ℤ◌}
 use Rattle.wasmi_types.specs.Numbers.{Width, bits, w8, w16, w32, signed, <a href="../../types/NumbersSpecs/index.html#wrap">wrap</a>, clamp_signed, clamp_unsigned}
@@ -1420,14 +1408,7 @@ use Rattle.wasmi_types.specs.Numbers.{w8, w16, w32, w64, <a href="../../types/Nu
 use Rattle.std.specs.Int.{cast_unsigned}
 use Rattle.wasmi_raw.specs.declared.raw.RawVal.{RawVal}
 use Rattle.wasmi_raw.specs.RawVal.{<a href="../../raw/RawValSpecs/index.html#raw_of">raw_of</a>, <a href="../../raw/RawValSpecs/index.html#signed_in">signed_in</a>}
-use Rattle.wasmi_ops.specs.declared.vector.ExtractOp.{ExtractOp}
-use Rattle.wasmi_ops.specs.declared.vector.ReplaceOp.{ReplaceOp}
-use Rattle.wasmi_ops.specs.declared.vector.LoadLaneOp.{LoadLaneOp}
-use Rattle.wasmi_ops.specs.declared.vector.StoreLaneOp.{StoreLaneOp}
-use Rattle.wasmi_ops.specs.declared.vector.ExtractKind.{ExtractKind}
-use Rattle.wasmi_ops.specs.declared.vector.ReplaceKind.{ReplaceKind}
-use Rattle.wasmi_ops.specs.declared.vector.LoadLaneKind.{LoadLaneKind}
-use Rattle.wasmi_ops.specs.declared.vector.StoreLaneKind.{StoreLaneKind}
+use Rattle.wasmi_ops.specs.declared.{vector.ExtractOp.ExtractOp, vector.ReplaceOp.ReplaceOp, vector.LoadLaneOp.LoadLaneOp, vector.StoreLaneOp.StoreLaneOp, vector.ExtractKind.ExtractKind, vector.ReplaceKind.ReplaceKind, vector.LoadLaneKind.LoadLaneKind, vector.StoreLaneKind.StoreLaneKind}
 use Rattle.wasmi_lanewise.specs.VectorTable as vector
 use Rattle.wasmi_ops.specs.declared.vector.ExtractOp.TheVariants as extract
 use Rattle.wasmi_ops.specs.declared.vector.ReplaceOp.TheVariants as replace
@@ -1549,16 +1530,15 @@ use Rattle.wasmi_raw.specs.RawVal.{<a href="../../raw/RawValSpecs/index.html#raw
 use mir.Val.{bits}
 use Rattle.wasmi_types.specs.Numbers.{<a href="../../types/NumbersSpecs/index.html#le_bytes">le_bytes</a>}
 use Rattle.wasmi_access.specs.LoadStore.{<a href="../../accesses/LoadStoreSpecs/index.html#loaded">loaded</a>}
-use Rattle.wasmi_ops.specs.declared.load_store.LoadOp.{LoadOp}
-use Rattle.wasmi_ops.specs.declared.load_store.StoreOp.{StoreOp}
+use Rattle.wasmi_ops.specs.declared.{load_store.LoadOp.LoadOp, load_store.StoreOp.StoreOp}
 use Rattle.wasmi_ops.specs.declared.load_store.LoadOp.TheVariants as load
 use Rattle.wasmi_ops.specs.declared.load_store.StoreOp.TheVariants as store
 
--- the raw value of a signed number of a width
+-- the raw value of a signed number of a width, as a load or another instruction gives it
 abbrev pub <b id="signed_raw">signed_raw</b> : Width → ℤ → RawVal
 <a href="../../ops/LoadStoreOpsSpecs/index.html#signed_raw">signed_raw</a> w z = <a href="../../raw/RawValSpecs/index.html#raw_of">raw_of</a> (cast_unsigned w z)
 
--- an answer as a raw value; a trap stays
+-- what a load, or another instruction, answers as a raw value; a trap stays
 abbrev pub <b id="as_raw">as_raw</b> : {A : Type 0} → (A → RawVal) → Result A TrapCode → Result RawVal TrapCode
 <a href="../../ops/LoadStoreOpsSpecs/index.html#as_raw">as_raw</a> raw (Ok value) = Ok (raw value)
 <a href="../../ops/LoadStoreOpsSpecs/index.html#as_raw">as_raw</a> raw (Err trap) = Err trap
@@ -1626,19 +1606,13 @@ abbrev pub <b id="store_name">store_name</b> : StoreOp → List ℕ
 
 <pre><code>use Rattle.std.specs.Prelude.{ℕ, List, codes, Result}
 use Rattle.wasmi_types.specs.Numbers.{w8, w16, w32, w64}
-use Rattle.wasmi_ops.specs.declared.vector.UnaryOp.{UnaryOp}
-use Rattle.wasmi_ops.specs.declared.vector.BinaryOp.{BinaryOp}
-use Rattle.wasmi_ops.specs.declared.vector.TernaryOp.{TernaryOp}
-use Rattle.wasmi_ops.specs.declared.vector.ShiftOp.{ShiftOp}
+use Rattle.wasmi_ops.specs.declared.{vector.UnaryOp.UnaryOp, vector.BinaryOp.BinaryOp, vector.TernaryOp.TernaryOp, vector.ShiftOp.ShiftOp, vector.TestOp.TestOp, vector.MakeOp.MakeOp, vector.VectorLoadOp.VectorLoadOp}
 use Rattle.std.specs.Int.{from_bool}
 use Rattle.wasmi_raw.specs.declared.raw.RawVal.{RawVal}
 use Rattle.wasmi_raw.specs.RawVal.{<a href="../../raw/RawValSpecs/index.html#raw_of">raw_of</a>, <a href="../../raw/RawValSpecs/index.html#signed_in">signed_in</a>, <a href="../../raw/RawValSpecs/index.html#unsigned_in">unsigned_in</a>}
-use Rattle.wasmi_ops.specs.declared.vector.TestOp.{TestOp}
-use Rattle.wasmi_ops.specs.declared.vector.MakeOp.{MakeOp}
 use Rattle.wasmi_types.specs.declared.trap.TrapCode.{TrapCode}
 use Rattle.wasmi_access.specs.LoadStore.{<a href="../../accesses/LoadStoreSpecs/index.html#loaded">loaded</a>}
 use Rattle.wasmi_lanes.specs.Vector.{<a href="../../lanes/VectorSpecs/index.html#splat_of">splat_of</a>}
-use Rattle.wasmi_ops.specs.declared.vector.VectorLoadOp.{VectorLoadOp}
 use Rattle.wasmi_lanewise.specs.VectorTable as vector
 use Rattle.wasmi_simd.specs.WideningTable as widening
 use Rattle.wasmi_ops.specs.declared.vector.UnaryOp.TheVariants as unary
@@ -1914,8 +1888,7 @@ pub mod scalar_ops {
 <a href="../../scalar_ops/ScalarOpsSpecs/index.html#use">use</a> Rattle.wasmi_raw.specs.declared.raw.RawVal.{RawVal}
 <a href="../../scalar_ops/ScalarOpsSpecs/index.html#use">use</a> Rattle.wasmi_raw.specs.RawVal.{<a href="../../raw/RawValSpecs/index.html#raw_of">raw_of</a>, <a href="../../raw/RawValSpecs/index.html#signed_in">signed_in</a>, <a href="../../raw/RawValSpecs/index.html#unsigned_in">unsigned_in</a>, <a href="../../raw/RawValSpecs/index.html#raw_of_vector">raw_of_vector</a>, <a href="../../raw/RawValSpecs/index.html#vector_in">vector_in</a>}
 <a href="../../scalar_ops/ScalarOpsSpecs/index.html#use">use</a> Rattle.wasmi_scalar.specs.Numerics.{<a href="../../scalar/NumericsSpecs/index.html#iclz">iclz</a>, <a href="../../scalar/NumericsSpecs/index.html#ictz">ictz</a>, <a href="../../scalar/NumericsSpecs/index.html#ipopcnt">ipopcnt</a>, <a href="../../scalar/NumericsSpecs/index.html#ieqz">ieqz</a>, <a href="../../scalar/NumericsSpecs/index.html#iadd">iadd</a>, <a href="../../scalar/NumericsSpecs/index.html#isub">isub</a>, <a href="../../scalar/NumericsSpecs/index.html#imul">imul</a>, <a href="../../scalar/NumericsSpecs/index.html#idiv_s">idiv_s</a>, <a href="../../scalar/NumericsSpecs/index.html#idiv_u">idiv_u</a>, <a href="../../scalar/NumericsSpecs/index.html#irem_s">irem_s</a>, <a href="../../scalar/NumericsSpecs/index.html#irem_u">irem_u</a>, <a href="../../scalar/NumericsSpecs/index.html#iand">iand</a>, <a href="../../scalar/NumericsSpecs/index.html#ior">ior</a>, <a href="../../scalar/NumericsSpecs/index.html#ixor">ixor</a>, <a href="../../scalar/NumericsSpecs/index.html#ishl">ishl</a>, <a href="../../scalar/NumericsSpecs/index.html#ishr_s">ishr_s</a>, <a href="../../scalar/NumericsSpecs/index.html#ishr_u">ishr_u</a>, <a href="../../scalar/NumericsSpecs/index.html#irotl">irotl</a>, <a href="../../scalar/NumericsSpecs/index.html#irotr">irotr</a>, <a href="../../scalar/NumericsSpecs/index.html#ieq">ieq</a>, <a href="../../scalar/NumericsSpecs/index.html#ine">ine</a>, <a href="../../scalar/NumericsSpecs/index.html#ilt_s">ilt_s</a>, <a href="../../scalar/NumericsSpecs/index.html#ilt_u">ilt_u</a>, <a href="../../scalar/NumericsSpecs/index.html#igt_s">igt_s</a>, <a href="../../scalar/NumericsSpecs/index.html#igt_u">igt_u</a>, <a href="../../scalar/NumericsSpecs/index.html#ile_s">ile_s</a>, <a href="../../scalar/NumericsSpecs/index.html#ile_u">ile_u</a>, <a href="../../scalar/NumericsSpecs/index.html#ige_s">ige_s</a>, <a href="../../scalar/NumericsSpecs/index.html#ige_u">ige_u</a>, <a href="../../scalar/NumericsSpecs/index.html#add128">add128</a>, <a href="../../scalar/NumericsSpecs/index.html#sub128">sub128</a>}
-<a href="../../scalar_ops/ScalarOpsSpecs/index.html#use">use</a> Rattle.wasmi_scalar_ops.specs.declared.scalar.ScalarUnaryOp.{ScalarUnaryOp}
-<a href="../../scalar_ops/ScalarOpsSpecs/index.html#use">use</a> Rattle.wasmi_scalar_ops.specs.declared.scalar.ScalarBinaryOp.{ScalarBinaryOp}
+<a href="../../scalar_ops/ScalarOpsSpecs/index.html#use">use</a> Rattle.wasmi_scalar_ops.specs.declared.{scalar.ScalarUnaryOp.ScalarUnaryOp, scalar.ScalarBinaryOp.ScalarBinaryOp}
 <a href="../../scalar_ops/ScalarOpsSpecs/index.html#use">use</a> Rattle.wasmi_scalar_ops.specs.declared.scalar.ScalarUnaryOp.TheVariants as unary
 <a href="../../scalar_ops/ScalarOpsSpecs/index.html#use">use</a> Rattle.wasmi_scalar_ops.specs.declared.scalar.ScalarBinaryOp.TheVariants as binary
 pub <b id="use">use</b> Rattle.wasmi_ops.specs.LoadStoreOps.{<a href="../../ops/LoadStoreOpsSpecs/index.html#signed_raw">signed_raw</a>, <a href="../../ops/LoadStoreOpsSpecs/index.html#as_raw">as_raw</a>, <a href="../../ops/LoadStoreOpsSpecs/index.html#RawLoad">RawLoad</a>, <a href="../../ops/LoadStoreOpsSpecs/index.html#sign_extended">sign_extended</a>, <a href="../../ops/LoadStoreOpsSpecs/index.html#zero_extended">zero_extended</a>, <a href="../../ops/LoadStoreOpsSpecs/index.html#unextended">unextended</a>, <a href="../../ops/LoadStoreOpsSpecs/index.html#load_row">load_row</a>, <a href="../../ops/LoadStoreOpsSpecs/index.html#loaded_raw">loaded_raw</a>, <a href="../../ops/LoadStoreOpsSpecs/index.html#load_name">load_name</a>, <a href="../../ops/LoadStoreOpsSpecs/index.html#store_row">store_row</a>, <a href="../../ops/LoadStoreOpsSpecs/index.html#stored_bytes">stored_bytes</a>, <a href="../../ops/LoadStoreOpsSpecs/index.html#store_name">store_name</a>}
@@ -2093,8 +2066,7 @@ pub record <b id="TakesAnswer">TakesAnswer</b> (list : <a href="../../meter/Answ
   pub <b id="answered">answered</b> : answer ≡ <a href="../../meter/AnswerListSpecs/index.html#answer_by">answer_by</a> (<a href="../../meter/AnswerListSpecs/index.html#next_answer">next_answer</a> list)
   pub <b id="taken">taken</b> : list&#x27; ≡ record { <a href="../../meter/AnswerListSpecs/index.html#ahead">ahead</a> = drop 1 list.ahead; <a href="../../meter/AnswerListSpecs/index.html#last">last</a> = <a href="../../meter/AnswerListSpecs/index.html#next_answer">next_answer</a> list }
 
--- the rules of such a limiter, whatever is asked: a notice is answered as the last question&#x27;s answer says, and takes
--- none
+-- the rules of such a limiter, whatever is asked: a notice is answered as the last answer says, and takes none
 abbrev pub <b id="answer_list_rules">answer_list_rules</b> : <a href="../../meter/LimiterSpecs/index.html#Rules">Rules</a> <a href="../../meter/AnswerListSpecs/index.html#AnswersAhead">AnswersAhead</a>
 <a href="../../meter/AnswerListSpecs/index.html#answer_list_rules">answer_list_rules</a> = record {
   asked = λ list question answer list&#x27;. <a href="../../meter/AnswerListSpecs/index.html#TakesAnswer">TakesAnswer</a> list answer list&#x27;;
@@ -2107,10 +2079,8 @@ abbrev pub <b id="answer_list_rules">answer_list_rules</b> : <a href="../../mete
 
 <pre><code>use Rattle.std.specs.Prelude.{◌≡◌, Option, Some, None, Ok, true}
 use Rattle.std.specs.Option.{option_map}
-use Rattle.wasmi_meter.specs.declared.quota.Amounts.{Amounts}
-use Rattle.wasmi_meter.specs.declared.any_limiter.AnyLimiter.{AnyLimiter}
+use Rattle.wasmi_meter.specs.declared.{quota.Amounts.Amounts, any_limiter.AnyLimiter.AnyLimiter, quota.Quota.Quota}
 use Rattle.wasmi_meter.specs.declared.any_limiter.AnyLimiter.TheVariants as limiter
-use Rattle.wasmi_meter.specs.declared.quota.Quota.{Quota}
 use Rattle.wasmi_meter.specs.Capped.{<a href="../../meter/CappedSpecs/index.html#amounts_of">amounts_of</a>, <a href="../../meter/CappedSpecs/index.html#cap_of">cap_of</a>, <a href="../../meter/CappedSpecs/index.html#quota_rules">quota_rules</a>}
 use Rattle.wasmi_meter.specs.AnswerList.{<a href="../../meter/AnswerListSpecs/index.html#AnswersAhead">AnswersAhead</a>, <a href="../../meter/AnswerListSpecs/index.html#answer_list_rules">answer_list_rules</a>}
 use Rattle.wasmi_meter.specs.Limiter.{<a href="../../meter/LimiterSpecs/index.html#Rules">Rules</a>}
@@ -2144,7 +2114,7 @@ abbrev pub <b id="caps_of">caps_of</b> : AnyLimiter → Option Amounts
 </code></pre>
 "####]
     pub mod AnyLimiterSpecs {}
-    #[doc = r####"An attempt, which is one creation or growth under a limiter and a meter: what is asked and paid, what is due and whether that is left, how it can end, and which answer, charge and value each end means.
+    #[doc = r####"An attempt, which is one creation or growth of a value with its meter and its limiter: what it begins with, what is asked and paid, what is due and whether that is left, how it can end, and which answer, charge and value each end means.
 
 <pre><code>use Rattle.std.specs.Prelude.{◌≡◌, ℕ, Bool, true, nat_le, is_none, ◌&amp;&amp;◌, if◌then◌else◌, MatchBool, Option, Some, None, Result, Ok, Err}
 use Rattle.std.specs.Option.{option_map}
@@ -2186,8 +2156,7 @@ pub record <b id="Request">Request</b> (V E : Type 0) : Type 1 where
   -- the value once it has grown
   pub <b id="grown">grown</b> : V
 
--- the four ends: refused unasked, denied by the limiter, met, or failed after the permission, with the answer to the
--- notice
+-- the four ends: unasked, denied by the limiter, met, or failed after the permission, with the answer to the notice
 pub data <b id="AttemptOutcome">AttemptOutcome</b> (E : Type 0) : Type 0 where
   <b id="Unasked">Unasked</b> : E → <a href="../../meter/AttemptSpecs/index.html#AttemptOutcome">AttemptOutcome</a> E
   <b id="Denied">Denied</b> : <a href="../../meter/LimiterSpecs/index.html#Answer">Answer</a> → <a href="../../meter/AttemptSpecs/index.html#AttemptOutcome">AttemptOutcome</a> E
@@ -2276,12 +2245,9 @@ pub record <b id="Attempt">Attempt</b> {V E S : Type 0} (rules : <a href="../../
     #[doc = r####"Limiters that count what they permitted: amounts by kind, what is held, taken, given back and released, limiters with caps and their rules, and quotas.
 
 <pre><code>use Rattle.std.specs.Prelude.{ℕ, ◌≡◌, ◌+◌, ◌-◌, ◌≤◌, ◌&lt;◌, Option, Some, None, Ok, Bool, true, false}
-use Rattle.wasmi_meter.specs.declared.quota.Amounts.{Amounts}
-use Rattle.wasmi_meter.specs.declared.limiter.Kind.{Kind}
+use Rattle.wasmi_meter.specs.declared.{quota.Amounts.Amounts, limiter.Kind.Kind, quota.Holdings.Holdings, quota.Quota.Quota}
 use Rattle.wasmi_meter.specs.declared.limiter.Kind.TheVariants.{Bytes, Elements}
-use Rattle.wasmi_meter.specs.declared.quota.Holdings.{Holdings}
 use Rattle.wasmi_meter.specs.Limiter.{<a href="../../meter/LimiterSpecs/index.html#Question">Question</a>, <a href="../../meter/LimiterSpecs/index.html#Answer">Answer</a>, <a href="../../meter/LimiterSpecs/index.html#Failure">Failure</a>, <a href="../../meter/LimiterSpecs/index.html#NoticeAnswer">NoticeAnswer</a>, <a href="../../meter/LimiterSpecs/index.html#kind_of">kind_of</a>, <a href="../../meter/LimiterSpecs/index.html#Rules">Rules</a>}
-use Rattle.wasmi_meter.specs.declared.quota.Quota.{Quota}
 
 -- the amount of a kind
 abbrev pub <b id="amount_of">amount_of</b> : Amounts → Kind → ℕ
@@ -2417,7 +2383,7 @@ abbrev pub <b id="quota_rules">quota_rules</b> : <a href="../../meter/LimiterSpe
 </code></pre>
 "####]
     pub mod CappedSpecs {}
-    #[doc = r####"A limiter with caps reserves what it permits and gives back at a notice: the proofs of these laws of a reserving limiter.
+    #[doc = r####"A limiter with caps is a reserving one: it reserves what it permits, and gives back at a notice.
 
 <pre><code>use Rattle.std.specs.Prelude.{◌+◌, ◌-◌}
 use Rattle.std.proofs.Common.{inl, inr, refl}
@@ -2446,14 +2412,10 @@ module _ {L : Type 0} (c : <a href="../../meter/CappedSpecs/index.html#Capped">C
     #[doc = r####"What a limiter is asked and told and what it answers, its rules, a limiter that may be absent, and the loan of a limiter by a reference to one.
 
 <pre><code>use Rattle.std.specs.Prelude.{◌≡◌, ℕ, Option, Some, None, Result, Ok, Bool, true}
-use Rattle.wasmi_meter.specs.declared.limiter.Kind.{Kind}
+use Rattle.wasmi_meter.specs.declared.{limiter.Kind.Kind, error.LimiterError.LimiterError, error.MemoryError.MemoryError, error.TableError.TableError, limiter.LimiterRef.LimiterRef}
 use Rattle.wasmi_meter.specs.declared.limiter.Kind.TheVariants.{Bytes, Elements}
-use Rattle.wasmi_meter.specs.declared.error.LimiterError.{LimiterError}
-use Rattle.wasmi_meter.specs.declared.error.MemoryError.{MemoryError}
-use Rattle.wasmi_meter.specs.declared.error.TableError.{TableError}
 use Rattle.std.specs.Option.{option_copied_mut}
 use Rattle.std.specs.Borrow.{MutBor, LendsIf, Fml, RattleType}
-use Rattle.wasmi_meter.specs.declared.limiter.LimiterRef.{LimiterRef}
 use Rattle.wasmi_meter.specs.contracts.limiter.LimiterRef.{the_row}
 
 -- May this grow from current to desired, where maximum is the most that its type allows?
@@ -2556,12 +2518,9 @@ abbrev pub <b id="LendsLimiter">LendsLimiter</b> : (R L : RattleType) → (R.Den
 use Rattle.std.proofs.Common.{inl, inr}
 use Rattle.std.specs.Borrow.{MutBor, Bor}
 use Rattle.std.specs.Option.{option_copied_mut, option_map, unwrap_or}
-use Rattle.wasmi_meter.specs.declared.fuel.FuelError.{FuelError}
+use Rattle.wasmi_meter.specs.declared.{fuel.FuelError.FuelError, fuel.CustomFuelCosts.CustomFuelCosts, error.TableError.TableError, fuel.FuelCostsProvider.FuelCostsProvider}
 use Rattle.wasmi_meter.specs.declared.fuel.FuelError.TheVariants.{OutOfFuel}
-use Rattle.wasmi_meter.specs.declared.fuel.CustomFuelCosts.{CustomFuelCosts}
-use Rattle.wasmi_meter.specs.declared.error.TableError.{TableError}
 use Rattle.std.specs.Fn.{Once, FnOnceReturnsAt}
-use Rattle.wasmi_meter.specs.declared.fuel.FuelCostsProvider.{FuelCostsProvider}
 use Rattle.wasmi_meter.specs.declared.fuel.FuelError.TheVariants as fuel
 use Rattle.wasmi_meter.specs.declared.error.TableError.TheVariants as table
 
@@ -2639,17 +2598,14 @@ abbrev pub <b id="copy_cost">copy_cost</b> : CustomFuelCosts → ℕ → ℕ →
 </code></pre>
 "####]
     pub mod MeterSpecs {}
-    #[doc = r####"What the errors of fuel meters, limiters, linear memories and tables print: words, and the number after them, if there is one.
+    #[doc = r####"The texts of errors of fuel meters, limiters, memories and tables: words, and the number after them, if any.
 
 <pre><code>use Rattle.std.specs.Prelude.{ℕ, List, ◌++◌, Option, None, Some, codes}
 use Rattle.std.specs.Fmt.{decimal}
-use Rattle.wasmi_meter.specs.declared.error.LimiterError.{LimiterError}
+use Rattle.wasmi_meter.specs.declared.{error.LimiterError.LimiterError, error.MemoryError.MemoryError, error.TableError.TableError, fuel.FuelError.FuelError}
 use Rattle.wasmi_meter.specs.declared.error.LimiterError.TheVariants as limiter
-use Rattle.wasmi_meter.specs.declared.error.MemoryError.{MemoryError}
 use Rattle.wasmi_meter.specs.declared.error.MemoryError.TheVariants as memory
-use Rattle.wasmi_meter.specs.declared.error.TableError.{TableError}
 use Rattle.wasmi_meter.specs.declared.error.TableError.TheVariants as table
-use Rattle.wasmi_meter.specs.declared.fuel.FuelError.{FuelError}
 use Rattle.wasmi_meter.specs.declared.fuel.FuelError.TheVariants as fuel
 
 -- the text of an error: its words, and the number after them, if there is one
@@ -2788,7 +2744,7 @@ module _ {Region : Type 0} where
 </code></pre>
 "####]
     pub mod BufferSpecs {}
-    #[doc = r####"Making and growing a memory or a table, as an attempt with its answer; a value with its meter and its limiter, what a limiter is asked and denies, and a call with some charge.
+    #[doc = r####"Making and growing a memory or a table, as an attempt with its answer: how what it begins with is put together, what a limiter is asked and denies, and a call with some charge.
 
 <pre><code>use Rattle.std.specs.Prelude.{◌≡◌, ◌&lt;◌, ◌⊎◌, ℕ, Option, None, Result, Ok}
 use Rattle.wasmi_meter.specs.Limiter.{<a href="../../meter/LimiterSpecs/index.html#Question">Question</a>, <a href="../../meter/LimiterSpecs/index.html#Answer">Answer</a>, <a href="../../meter/LimiterSpecs/index.html#IsDenial">IsDenial</a>, <a href="../../meter/LimiterSpecs/index.html#Rules">Rules</a>}
@@ -2857,8 +2813,7 @@ use Rattle.std.specs.Option.{option_map, option_map_or, ForSome}
 use Rattle.wasmi_types.specs.declared.index_ty.IndexType.{IndexType}
 use Rattle.wasmi_types.specs.declared.index_ty.IndexType.TheVariants.{I32}
 use Rattle.wasmi_types.specs.Value.{<a href="../../types/ValueSpecs/index.html#address_bits">address_bits</a>}
-use Rattle.wasmi_store.specs.declared.memory.ty.MemoryTypeBuilder.{MemoryTypeBuilder}
-use Rattle.wasmi_store.specs.declared.memory.ty.PageSize.{PageSize}
+use Rattle.wasmi_store.specs.declared.{memory.ty.MemoryTypeBuilder.MemoryTypeBuilder, memory.ty.PageSize.PageSize}
 use Rattle.wasmi_store.specs.declared.memory.ty.PageSize.TheVariants.{Byte, Wasm}
 use Rattle.wasmi_types.specs.Access.{<a href="../../types/AccessSpecs/index.html#overwrite">overwrite</a>}
 use Rattle.wasmi_meter.specs.declared.error.MemoryError.{MemoryError}
@@ -2915,8 +2870,7 @@ pub record <b id="IsValid">IsValid</b> (<a href="../../store/MemorySpecs/index.h
   pub <b id="minimum">minimum</b> : ty.minimum ≤ <a href="../../store/MemorySpecs/index.html#greatest_pages">greatest_pages</a> <a href="../../store/MemorySpecs/index.html#ty">ty</a>
   pub <b id="maximum">maximum</b> : ForSome ty.maximum (λ <a href="../../store/MemorySpecs/index.html#maximum">maximum</a>. (ty.minimum ≤ <a href="../../store/MemorySpecs/index.html#maximum">maximum</a>) × (<a href="../../store/MemorySpecs/index.html#maximum">maximum</a> ≤ <a href="../../store/MemorySpecs/index.html#greatest_pages">greatest_pages</a> <a href="../../store/MemorySpecs/index.html#ty">ty</a>))
 
--- whether a memory of the type may have so many pages: no more than it can address, nor than its maximum, and less than
--- 2 ^ 64 bytes
+-- whether a memory of the type may have so many pages: by its addresses and its maximum, and less than 2 ^ 64 bytes
 abbrev pub <b id="in_bounds">in_bounds</b> : <a href="../../store/MemorySpecs/index.html#MemoryTypeValue">MemoryTypeValue</a> → ℕ → Bool
 <a href="../../store/MemorySpecs/index.html#in_bounds">in_bounds</a> <a href="../../store/MemorySpecs/index.html#ty">ty</a> pages =
     nat_le pages (<a href="../../store/MemorySpecs/index.html#greatest_pages">greatest_pages</a> <a href="../../store/MemorySpecs/index.html#ty">ty</a>) &amp;&amp; option_map_or (λ <a href="../../store/MemorySpecs/index.html#maximum">maximum</a>. nat_le pages <a href="../../store/MemorySpecs/index.html#maximum">maximum</a>) ty.maximum true &amp;&amp; nat_lt
@@ -2998,8 +2952,7 @@ abbrev pub <b id="creation_of">creation_of</b> : <a href="../../store/BufferSpec
   grown = tt;
 }
 
--- what is asked and paid where a memory grows by so many pages, and the causes of a refusal: a short region before want
--- of fuel
+-- what a growth of a memory by so many pages asks and pays, and its causes: a short region before want of fuel
 abbrev pub <b id="growth_of">growth_of</b> : <a href="../../store/MemorySpecs/index.html#MemoryValue">MemoryValue</a> → ℕ → <a href="../../meter/AttemptSpecs/index.html#Request">Request</a> <a href="../../store/MemorySpecs/index.html#MemoryValue">MemoryValue</a> MemoryError
 <a href="../../store/MemorySpecs/index.html#growth_of">growth_of</a> x pages = let added = pages * <a href="../../store/MemorySpecs/index.html#page_bytes">page_bytes</a> x.ty.<a href="../../store/MemorySpecs/index.html#page">page</a> in record {
   early = if <a href="../../store/MemorySpecs/index.html#in_bounds">in_bounds</a> x.ty (<a href="../../store/MemorySpecs/index.html#pages_of">pages_of</a> x + pages) then None else Some OutOfBoundsGrowth;
@@ -3074,14 +3027,13 @@ abbrev pub <b id="WritesMemoryRange">WritesMemoryRange</b> : (<a href="../../sto
 </code></pre>
 "####]
     pub mod MemorySpecs {}
-    #[doc = r####"Element segments (core specification, element instances), how one is read of an iterator, and what their errors print.
+    #[doc = r####"Element segments (core specification, element instances), how one is read of an iterator, and their errors' texts.
 
 <pre><code>use Rattle.std.specs.Prelude.{◌≡◌, ◌^◌, ◌-◌, ◌&lt;◌, ◌≤◌, ℕ, List, [], length, Option, Result, Ok, Err, codes}
 use Rattle.std.specs.Iterator.{Yields}
 use Rattle.wasmi_types.specs.declared.value.RefType.{RefType}
 use Rattle.wasmi_types.specs.Reading.{<a href="../../types/ReadingSpecs/index.html#ReadsAll">ReadsAll</a>, <a href="../../types/ReadingSpecs/index.html#ReadsTooMany">ReadsTooMany</a>}
-use Rattle.wasmi_store.specs.declared.table.element.ElementSegmentRef.{ElementSegmentRef}
-use Rattle.wasmi_store.specs.declared.table.element.SegmentError.{SegmentError}
+use Rattle.wasmi_store.specs.declared.{table.element.ElementSegmentRef.ElementSegmentRef, table.element.SegmentError.SegmentError}
 use Rattle.wasmi_store.specs.declared.table.element.SegmentError.TheVariants.{TooManyItems, OutOfSystemMemory}
 
 -- an element segment: the type of its items, and the items
@@ -3139,15 +3091,13 @@ abbrev pub <b id="segment_error_text">segment_error_text</b> : SegmentError → 
 
 <pre><code>use Rattle.std.specs.Prelude.{◌≡◌, ◌^◌, ◌≤◌, ◌&lt;◌, ℕ, Bool, true, false, nat_le, nat_lt, Option, ◌+◌, List, [], ◌∷◌, ◌++◌, length, replicate, max, nat_eq, if◌then◌else◌, MatchBool, MatchOption, Some, None, Result, Ok, Err, slice_get}
 use Rattle.std.specs.Option.{option_map_or, ForSome, option_map}
-use Rattle.wasmi_types.specs.declared.value.RefType.{RefType}
+use Rattle.wasmi_types.specs.declared.{value.RefType.RefType, index_ty.IndexType.IndexType}
 use Rattle.wasmi_types.specs.declared.value.RefType.TheVariants.{Func, Extern}
-use Rattle.wasmi_types.specs.declared.index_ty.IndexType.{IndexType}
 use Rattle.wasmi_types.specs.Value.{<a href="../../types/ValueSpecs/index.html#address_bits">address_bits</a>}
 use Rattle.wasmi_store.specs.Memory.{<a href="../../store/MemorySpecs/index.html#IsNoLooser">IsNoLooser</a>}
 use Rattle.wasmi_types.specs.Access.{<a href="../../types/AccessSpecs/index.html#overwrite">overwrite</a>}
 use Rattle.wasmi_typed.specs.declared.typed_ref.TypedRawRef.{TypedRawRef}
-use Rattle.wasmi_meter.specs.declared.fuel.CustomFuelCosts.{CustomFuelCosts}
-use Rattle.wasmi_meter.specs.declared.error.TableError.{TableError}
+use Rattle.wasmi_meter.specs.declared.{fuel.CustomFuelCosts.CustomFuelCosts, error.TableError.TableError}
 use Rattle.wasmi_meter.specs.declared.error.TableError.TheVariants.{OutOfSystemMemory, ResourceLimiterDeniedAllocation, GrowOutOfBounds, InitOutOfBounds, FillOutOfBounds, SetOutOfBounds, CopyOutOfBounds, ElementTypeMismatch, OutOfFuel}
 use Rattle.wasmi_meter.specs.declared.limiter.Kind.TheVariants.{Elements}
 use Rattle.wasmi_meter.specs.Limiter.{<a href="../../meter/LimiterSpecs/index.html#TableFailure">TableFailure</a>, <a href="../../meter/LimiterSpecs/index.html#Rules">Rules</a>}
@@ -3347,8 +3297,7 @@ abbrev pub <b id="copy_of">copy_of</b> : ℕ → ℕ → ℕ → <a href="../../
 <a href="../../store/TableSpecs/index.html#copy_of">copy_of</a> dst src len source x = <a href="../../store/TableSpecs/index.html#elements_write">elements_write</a> x (<a href="../../store/TableSpecs/index.html#same_type">same_type</a> x.ty.<a href="../../store/TableSpecs/index.html#element">element</a> source.ty.<a href="../../store/TableSpecs/index.html#element">element</a>)
     (<a href="../../store/WriteSpecs/index.html#copied">copied</a> x.elements dst source.elements src len) CopyOutOfBounds (Some len)
 
--- len items from src on of an element segment are copied over a table&#x27;s elements from dst on; where len is 0, that is
--- free
+-- len items from src on of a segment are copied over a table&#x27;s elements from dst on, which is free where len is 0
 abbrev pub <b id="initialization_of">initialization_of</b> : ℕ → ℕ → ℕ → <a href="../../store/SegmentSpecs/index.html#SegmentValue">SegmentValue</a> → <a href="../../store/TableSpecs/index.html#TableValue">TableValue</a> → <a href="../../store/TableSpecs/index.html#TableWrite">TableWrite</a>
 <a href="../../store/TableSpecs/index.html#initialization_of">initialization_of</a> dst src len segment x = <a href="../../store/TableSpecs/index.html#elements_write">elements_write</a> x (<a href="../../store/TableSpecs/index.html#same_type">same_type</a> x.ty.<a href="../../store/TableSpecs/index.html#element">element</a> segment.ty)
     (<a href="../../store/WriteSpecs/index.html#copied">copied</a> x.elements dst segment.items src len) InitOutOfBounds (if nat_eq len 0 then None else Some len)
@@ -3365,9 +3314,8 @@ abbrev pub <b id="WritesTable">WritesTable</b> : (<a href="../../store/TableSpec
 <pre><code>use Rattle.std.specs.Prelude.{◌≡◌, ℕ, Option, Some, None, Result, Ok, Err, List, replicate, MatchBool}
 use Rattle.std.specs.Option.{option_map, option_and_then}
 use Rattle.wasmi_types.specs.Access.{<a href="../../types/AccessSpecs/index.html#at">at</a>, <a href="../../types/AccessSpecs/index.html#overwrite">overwrite</a>}
-use Rattle.wasmi_meter.specs.declared.error.MemoryError.{MemoryError}
+use Rattle.wasmi_meter.specs.declared.{error.MemoryError.MemoryError, fuel.CustomFuelCosts.CustomFuelCosts}
 use Rattle.wasmi_meter.specs.declared.error.MemoryError.TheVariants.{OutOfBoundsAccess, OutOfFuel}
-use Rattle.wasmi_meter.specs.declared.fuel.CustomFuelCosts.{CustomFuelCosts}
 use Rattle.wasmi_meter.specs.Meter.{<a href="../../meter/MeterSpecs/index.html#copy_cost">copy_cost</a>, <a href="../../meter/MeterSpecs/index.html#meter_after">meter_after</a>}
 use Rattle.wasmi_meter.specs.Attempt.{<a href="../../meter/AttemptSpecs/index.html#MeteredValue">MeteredValue</a>, <a href="../../meter/AttemptSpecs/index.html#optional_due">optional_due</a>, <a href="../../meter/AttemptSpecs/index.html#covers">covers</a>}
 use Rattle.wasmi_store.specs.Growth.{<a href="../../store/GrowthSpecs/index.html#metered">metered</a>}
@@ -3376,8 +3324,7 @@ use Rattle.wasmi_store.specs.Growth.{<a href="../../store/GrowthSpecs/index.html
 abbrev pub <b id="filled">filled</b> : {A : Type 0} → List A → ℕ → A → ℕ → Option (List A)
 <a href="../../store/WriteSpecs/index.html#filled">filled</a> items dst value len = <a href="../../types/AccessSpecs/index.html#overwrite">overwrite</a> items dst (replicate len value)
 
--- items whose part from dst on is written over by so many items of a list from src on, or none where a list ends too
--- early
+-- items whose part from dst on is written over by len items of a list from src on, or none where a list ends early
 abbrev pub <b id="copied">copied</b> : {A : Type 0} → List A → ℕ → List A → ℕ → ℕ → Option (List A)
 <a href="../../store/WriteSpecs/index.html#copied">copied</a> items dst source src len = option_and_then (λ part. <a href="../../types/AccessSpecs/index.html#overwrite">overwrite</a> items dst part) (<a href="../../types/AccessSpecs/index.html#at">at</a> source src len)
 
@@ -3440,7 +3387,7 @@ abbrev pub <b id="WritesItems">WritesItems</b> : {A E : Type 0} → (ℕ → E) 
     → <a href="../../meter/AttemptSpecs/index.html#MeteredValue">MeteredValue</a> (List A) (Unit {0}) → Result (Unit {0}) E → <a href="../../meter/AttemptSpecs/index.html#MeteredValue">MeteredValue</a> (List A) (Unit {0}) → Type 0
 <a href="../../store/WriteSpecs/index.html#WritesItems">WritesItems</a> <a href="../../store/WriteSpecs/index.html#unpaid">unpaid</a> <a href="../../store/WriteSpecs/index.html#written">written</a> <a href="../../store/WriteSpecs/index.html#outside">outside</a> <a href="../../store/WriteSpecs/index.html#price">price</a> = <a href="../../store/WriteSpecs/index.html#Writes">Writes</a> (<a href="../../store/WriteSpecs/index.html#items_write">items_write</a> <a href="../../store/WriteSpecs/index.html#unpaid">unpaid</a> <a href="../../store/WriteSpecs/index.html#written">written</a> <a href="../../store/WriteSpecs/index.html#outside">outside</a> <a href="../../store/WriteSpecs/index.html#price">price</a>)
 
--- a bulk instruction writes so many bytes, each of which is paid for
+-- a bulk instruction writes so many bytes of a list, each of which is paid for
 abbrev pub <b id="BulkWrites">BulkWrites</b> : Option (List ℕ) → ℕ → <a href="../../meter/AttemptSpecs/index.html#MeteredValue">MeteredValue</a> (List ℕ) (Unit {0}) → Result (Unit {0}) MemoryError
     → <a href="../../meter/AttemptSpecs/index.html#MeteredValue">MeteredValue</a> (List ℕ) (Unit {0}) → Type 0
 <a href="../../store/WriteSpecs/index.html#BulkWrites">BulkWrites</a> <a href="../../store/WriteSpecs/index.html#written">written</a> len = <a href="../../store/WriteSpecs/index.html#WritesItems">WritesItems</a> OutOfFuel <a href="../../store/WriteSpecs/index.html#written">written</a> OutOfBoundsAccess (Some (<a href="../../store/WriteSpecs/index.html#item_price">item_price</a> 1 len))
@@ -3454,10 +3401,9 @@ pub mod machine {
 
 <pre><code>use Rattle.std.specs.Prelude.{◌≡◌, ◌+◌, ◌≤◌, ℕ, Some, List, fold, sum_by, ◌-◌, ◌*◌, ◌&lt;◌, Bool, true, false, ◌&amp;&amp;◌, if◌then◌else◌, count_by}
 use Rattle.wasmi_meter.specs.Meter.{<a href="../../meter/MeterSpecs/index.html#Meter">Meter</a>, <a href="../../meter/MeterSpecs/index.html#meter_set">meter_set</a>, <a href="../../meter/MeterSpecs/index.html#PaysCharge">PaysCharge</a>}
-use Rattle.wasmi_machine.specs.declared.calls.Call.{Call}
+use Rattle.wasmi_machine.specs.declared.{calls.Call.Call, calls.Reply.Reply}
 use Rattle.wasmi_machine.specs.declared.calls.Call.TheVariants.{SetFuel}
 use Rattle.wasmi_machine.specs.State.{<a href="../../machine/StateSpecs/index.html#Turn">Turn</a>}
-use Rattle.wasmi_machine.specs.declared.calls.Reply.{Reply}
 use Rattle.wasmi_machine.specs.declared.calls.Reply.TheVariants.{Done, Number}
 use Rattle.wasmi_machine.specs.Steps.{<a href="../../machine/StepsSpecs/index.html#is_charged">is_charged</a>}
 
@@ -3546,23 +3492,21 @@ pub record <b id="IsSpent">IsSpent</b> (rate before after : ℕ) (turns : List <
 
 <pre><code>use Rattle.std.specs.Prelude.{◌≡◌, List, Ok, Option, Some, None, true, All, map}
 use Rattle.wasmi_meter.specs.Limiter.{<a href="../../meter/LimiterSpecs/index.html#Question">Question</a>, <a href="../../meter/LimiterSpecs/index.html#Answer">Answer</a>, <a href="../../meter/LimiterSpecs/index.html#Failure">Failure</a>, <a href="../../meter/LimiterSpecs/index.html#MemoryFailure">MemoryFailure</a>, <a href="../../meter/LimiterSpecs/index.html#TableFailure">TableFailure</a>, <a href="../../meter/LimiterSpecs/index.html#NoticeAnswer">NoticeAnswer</a>, <a href="../../meter/LimiterSpecs/index.html#Rules">Rules</a>, <a href="../../meter/LimiterSpecs/index.html#optional_rules">optional_rules</a>}
-use Rattle.wasmi_machine.specs.declared.calls.Reply.{Reply}
+use Rattle.wasmi_machine.specs.declared.{calls.Reply.Reply, calls.Call.Call}
 use Rattle.wasmi_machine.specs.declared.calls.Reply.TheVariants.{Memory, Table, Segment, NoRoom}
 use Rattle.wasmi_machine.specs.State.{<a href="../../machine/StateSpecs/index.html#Turn">Turn</a>, <a href="../../machine/StateSpecs/index.html#State">State</a>, <a href="../../machine/StateSpecs/index.html#World">World</a>, <a href="../../machine/StateSpecs/index.html#world">world</a>}
-use Rattle.wasmi_meter.specs.declared.any_limiter.AnyLimiter.{AnyLimiter}
-use Rattle.wasmi_meter.specs.declared.quota.Quota.{Quota}
+use Rattle.wasmi_meter.specs.declared.{any_limiter.AnyLimiter.AnyLimiter, quota.Quota.Quota}
 use Rattle.wasmi_meter.specs.AnswerList.{<a href="../../meter/AnswerListSpecs/index.html#AnswersAhead">AnswersAhead</a>, <a href="../../meter/AnswerListSpecs/index.html#answer_list_rules">answer_list_rules</a>}
 use Rattle.wasmi_meter.specs.AnyLimiter.{<a href="../../meter/AnyLimiterSpecs/index.html#any_limiter_rules">any_limiter_rules</a>}
 use Rattle.wasmi_meter.specs.Capped.{<a href="../../meter/CappedSpecs/index.html#quota_rules">quota_rules</a>}
 use Rattle.wasmi_machine.specs.Steps.{<a href="../../machine/StepsSpecs/index.html#Run">Run</a>, <a href="../../machine/StepsSpecs/index.html#IsRunOf">IsRunOf</a>, <a href="../../machine/StepsSpecs/index.html#RepliesWith">RepliesWith</a>}
-use Rattle.wasmi_machine.specs.declared.calls.Call.{Call}
 use Rattle.wasmi_meter.specs.declared.error.MemoryError.TheVariants as memory
 use Rattle.wasmi_meter.specs.declared.error.TableError.TheVariants as table
 use Rattle.wasmi_store.specs.declared.<a href="../../store/TableSpecs/index.html#element">table.element</a>.SegmentError.TheVariants as segment
 use Rattle.wasmi_meter.specs.declared.any_limiter.AnyLimiter.TheVariants as limiter
 
 -- a limiter has one answer to each question and to each notice, and is in one state after it
-pub record <b id="IsDeterministic">IsDeterministic</b> {S : Type 0} (rules : <a href="../../meter/LimiterSpecs/index.html#Rules">Rules</a> S) : Type 0 where
+pub record <b id="IsDeterministic">IsDeterministic</b> {S : Type 0} (<a href="../../machine/DeterminismSpecs/index.html#rules">rules</a> : <a href="../../meter/LimiterSpecs/index.html#Rules">Rules</a> S) : Type 0 where
   pub <b id="asked">asked</b> : (l : S) (question : <a href="../../meter/LimiterSpecs/index.html#Question">Question</a>) (answer answer&#x27; : <a href="../../meter/LimiterSpecs/index.html#Answer">Answer</a>) (l&#x27; l&#x27;&#x27; : S) → rules.asked l question answer l&#x27;
       → rules.asked l question answer&#x27; l&#x27;&#x27; → (answer ≡ answer&#x27;) × (l&#x27; ≡ l&#x27;&#x27;)
   pub <b id="noticed">noticed</b> : (l : S) (failure : <a href="../../meter/LimiterSpecs/index.html#Failure">Failure</a>) (notice_answer notice_answer&#x27; : <a href="../../meter/LimiterSpecs/index.html#NoticeAnswer">NoticeAnswer</a>) (l&#x27; l&#x27;&#x27; : S)
@@ -3571,12 +3515,12 @@ pub record <b id="IsDeterministic">IsDeterministic</b> {S : Type 0} (rules : <a 
 
 -- a limiter accepts each notice
 abbrev pub <b id="AcceptsNotices">AcceptsNotices</b> : {S : Type 0} → <a href="../../meter/LimiterSpecs/index.html#Rules">Rules</a> S → Type 0
-<a href="../../machine/DeterminismSpecs/index.html#AcceptsNotices">AcceptsNotices</a> {S} rules =
+<a href="../../machine/DeterminismSpecs/index.html#AcceptsNotices">AcceptsNotices</a> {S} <a href="../../machine/DeterminismSpecs/index.html#rules">rules</a> =
     (l : S) (failure : <a href="../../meter/LimiterSpecs/index.html#Failure">Failure</a>) (notice_answer : <a href="../../meter/LimiterSpecs/index.html#NoticeAnswer">NoticeAnswer</a>) (l&#x27; : S) → rules.noticed l failure notice_answer l&#x27;
     → notice_answer ≡ Ok tt
 
 -- a limiter in one of these states accepts each notice, and stays in them
-pub record <b id="StaysAccepting">StaysAccepting</b> {S : Type 0} (rules : <a href="../../meter/LimiterSpecs/index.html#Rules">Rules</a> S) (IsAccepting : S → Type 0) : Type 0 where
+pub record <b id="StaysAccepting">StaysAccepting</b> {S : Type 0} (<a href="../../machine/DeterminismSpecs/index.html#rules">rules</a> : <a href="../../meter/LimiterSpecs/index.html#Rules">Rules</a> S) (IsAccepting : S → Type 0) : Type 0 where
   pub <b id="asked">asked</b> : (l : S) (question : <a href="../../meter/LimiterSpecs/index.html#Question">Question</a>) (answer : <a href="../../meter/LimiterSpecs/index.html#Answer">Answer</a>) (l&#x27; : S) → IsAccepting l
       → rules.asked l question answer l&#x27; → IsAccepting l&#x27;
   pub <b id="noticed">noticed</b> : (l : S) (failure : <a href="../../meter/LimiterSpecs/index.html#Failure">Failure</a>) (notice_answer : <a href="../../meter/LimiterSpecs/index.html#NoticeAnswer">NoticeAnswer</a>) (l&#x27; : S) → IsAccepting l
@@ -3595,10 +3539,8 @@ abbrev pub <b id="IsOtherFailure">IsOtherFailure</b> : <a href="../../meter/Limi
 
 -- the rules by which no limiter is notified that memory was refused
 abbrev pub <b id="never_out_of_memory">never_out_of_memory</b> : {S : Type 0} → <a href="../../meter/LimiterSpecs/index.html#Rules">Rules</a> S → <a href="../../meter/LimiterSpecs/index.html#Rules">Rules</a> S
-<a href="../../machine/DeterminismSpecs/index.html#never_out_of_memory">never_out_of_memory</a> rules = record {
-  <a href="../../machine/DeterminismSpecs/index.html#asked">asked</a> = rules.asked;
-  <a href="../../machine/DeterminismSpecs/index.html#noticed">noticed</a> = λ l failure notice_answer l&#x27;. rules.noticed l failure notice_answer l&#x27; × <a href="../../machine/DeterminismSpecs/index.html#IsOtherFailure">IsOtherFailure</a> failure;
-}
+<a href="../../machine/DeterminismSpecs/index.html#never_out_of_memory">never_out_of_memory</a> <a href="../../machine/DeterminismSpecs/index.html#rules">rules</a> =
+    record <b id="rules">rules</b> { <a href="../../machine/DeterminismSpecs/index.html#noticed">noticed</a> = λ l failure answer l&#x27;. rules.noticed l failure answer l&#x27; × <a href="../../machine/DeterminismSpecs/index.html#IsOtherFailure">IsOtherFailure</a> failure }
 
 -- the reply doesn&#x27;t say out of memory
 abbrev pub <b id="IsNotOutOfMemory">IsNotOutOfMemory</b> : Reply → Type 0
@@ -3614,10 +3556,7 @@ abbrev pub <b id="AreNotOutOfMemory">AreNotOutOfMemory</b> : List <a href="../..
 
 -- the rules by which each question is permitted
 abbrev pub <b id="permitting">permitting</b> : {S : Type 0} → <a href="../../meter/LimiterSpecs/index.html#Rules">Rules</a> S → <a href="../../meter/LimiterSpecs/index.html#Rules">Rules</a> S
-<a href="../../machine/DeterminismSpecs/index.html#permitting">permitting</a> rules = record {
-  <a href="../../machine/DeterminismSpecs/index.html#asked">asked</a> = λ l question answer l&#x27;. (answer ≡ Ok true) × rules.asked l question answer l&#x27;;
-  <a href="../../machine/DeterminismSpecs/index.html#noticed">noticed</a> = rules.noticed;
-}
+<a href="../../machine/DeterminismSpecs/index.html#permitting">permitting</a> <a href="../../machine/DeterminismSpecs/index.html#rules">rules</a> = record <a href="../../machine/DeterminismSpecs/index.html#rules">rules</a> { <a href="../../machine/DeterminismSpecs/index.html#asked">asked</a> = λ l q answer l&#x27;. (answer ≡ Ok true) × rules.asked l q answer l&#x27; }
 
 -- the reply reports no denial, and is no error by which a denial is reported
 abbrev pub <b id="TellsNoDenial">TellsNoDenial</b> : Reply → Type 0
@@ -3646,16 +3585,16 @@ module _ (Relates : (L : Type 0) → <a href="../../meter/LimiterSpecs/index.htm
 
 -- a run under such a limiter is one by the rules of its kind
 abbrev pub <b id="RunsKeepKind">RunsKeepKind</b> : Type 0
-<a href="../../machine/DeterminismSpecs/index.html#RunsKeepKind">RunsKeepKind</a> = (turns : List <a href="../../machine/StateSpecs/index.html#Turn">Turn</a>) → <a href="../../machine/DeterminismSpecs/index.html#KindStays">KindStays</a> (λ L rules w w&#x27;. <a href="../../machine/StepsSpecs/index.html#Run">Run</a> rules w turns w&#x27;)
+<a href="../../machine/DeterminismSpecs/index.html#RunsKeepKind">RunsKeepKind</a> = (turns : List <a href="../../machine/StateSpecs/index.html#Turn">Turn</a>) → <a href="../../machine/DeterminismSpecs/index.html#KindStays">KindStays</a> (λ L <a href="../../machine/DeterminismSpecs/index.html#rules">rules</a> w w&#x27;. <a href="../../machine/StepsSpecs/index.html#Run">Run</a> <a href="../../machine/DeterminismSpecs/index.html#rules">rules</a> w turns w&#x27;)
 
 -- a run of calls with these replies under such a limiter is one by the rules of its kind
 abbrev pub <b id="RunsOfCallsKeepKind">RunsOfCallsKeepKind</b> : Type 0
 <a href="../../machine/DeterminismSpecs/index.html#RunsOfCallsKeepKind">RunsOfCallsKeepKind</a> = (calls : List Call) (replies : List Reply)
-    → <a href="../../machine/DeterminismSpecs/index.html#KindStays">KindStays</a> (λ L rules w w&#x27;. <a href="../../machine/StepsSpecs/index.html#IsRunOf">IsRunOf</a> rules calls w replies w&#x27;)
+    → <a href="../../machine/DeterminismSpecs/index.html#KindStays">KindStays</a> (λ L <a href="../../machine/DeterminismSpecs/index.html#rules">rules</a> w w&#x27;. <a href="../../machine/StepsSpecs/index.html#IsRunOf">IsRunOf</a> <a href="../../machine/DeterminismSpecs/index.html#rules">rules</a> calls w replies w&#x27;)
 
 -- a reply to a call under such a limiter is one by the rules of its kind
 abbrev pub <b id="RepliesKeepKind">RepliesKeepKind</b> : Type 0
-<a href="../../machine/DeterminismSpecs/index.html#RepliesKeepKind">RepliesKeepKind</a> = (call : Call) (reply : Reply) → <a href="../../machine/DeterminismSpecs/index.html#KindStays">KindStays</a> (λ L rules w w&#x27;. <a href="../../machine/StepsSpecs/index.html#RepliesWith">RepliesWith</a> rules call w reply w&#x27;)
+<a href="../../machine/DeterminismSpecs/index.html#RepliesKeepKind">RepliesKeepKind</a> = (call : Call) (reply : Reply) → <a href="../../machine/DeterminismSpecs/index.html#KindStays">KindStays</a> (λ L <a href="../../machine/DeterminismSpecs/index.html#rules">rules</a> w w&#x27;. <a href="../../machine/StepsSpecs/index.html#RepliesWith">RepliesWith</a> <a href="../../machine/DeterminismSpecs/index.html#rules">rules</a> call w reply w&#x27;)
 </code></pre>
 "####]
     pub mod DeterminismSpecs {}
@@ -3666,9 +3605,8 @@ use Rattle.wasmi_meter.specs.Attempt.{<a href="../../meter/AttemptSpecs/index.ht
 use Rattle.wasmi_meter.specs.Meter.{<a href="../../meter/MeterSpecs/index.html#Meter">Meter</a>, <a href="../../meter/MeterSpecs/index.html#cut_product">cut_product</a>}
 use Rattle.wasmi_store.specs.Growth.{<a href="../../store/GrowthSpecs/index.html#metered">metered</a>, <a href="../../store/GrowthSpecs/index.html#metered_value">metered_value</a>}
 use Rattle.wasmi_store.specs.Write.{<a href="../../store/WriteSpecs/index.html#MeteredWrite">MeteredWrite</a>, <a href="../../store/WriteSpecs/index.html#WritesCharging">WritesCharging</a>}
-use Rattle.wasmi_machine.specs.declared.calls.Reply.{Reply}
+use Rattle.wasmi_machine.specs.declared.{calls.Reply.Reply, slots.Slot.Slot}
 use Rattle.wasmi_machine.specs.declared.calls.Reply.TheVariants.{Done, Made, Number, NoSuch, NoRoom}
-use Rattle.wasmi_machine.specs.declared.slots.Slot.{Slot}
 use Rattle.wasmi_machine.specs.declared.slots.Slot.TheVariants.{Live, Gone}
 use Rattle.wasmi_machine.specs.State.{<a href="../../machine/StateSpecs/index.html#State">State</a>, <a href="../../machine/StateSpecs/index.html#live_at">live_at</a>, <a href="../../machine/StateSpecs/index.html#World">World</a>, <a href="../../machine/StateSpecs/index.html#world">world</a>, <a href="../../machine/StateSpecs/index.html#TurnOutcome">TurnOutcome</a>, <a href="../../machine/StateSpecs/index.html#IsFree">IsFree</a>}
 
@@ -3681,12 +3619,11 @@ abbrev pub <b id="reply_of">reply_of</b> : {T E : Type 0} → (T → Reply) → 
 abbrev pub <b id="reply_or_no_such">reply_or_no_such</b> : Option Reply → Reply
 <a href="../../machine/EffectsSpecs/index.html#reply_or_no_such">reply_or_no_such</a> reply = unwrap_or reply NoSuch
 
--- a fact of the live value of an index; where the index names none, the other fact
+-- a fact of an effect on the live value of an index; where the index names none, the other fact
 abbrev pub <b id="OnLive">OnLive</b> : {X : Type 0} → Option X → Type 0 → (X → Type 0) → Type 0
 <a href="../../machine/EffectsSpecs/index.html#OnLive">OnLive</a> o Missing Fact = MatchOption o Missing Fact
 
--- the value that an index names has become another, which is put back; where the index names none it is `NoSuch`, and
--- nothing has changed
+-- the value that an index names has become another, which is put back; without one it is `NoSuch`, and nothing changes
 abbrev pub <b id="ChangesFound">ChangesFound</b> : {X A : Type 0} → Option X → (X → A) → A → Reply → A → (X → X → Type 0) → Type 0
 <a href="../../machine/EffectsSpecs/index.html#ChangesFound">ChangesFound</a> found put <a href="../../machine/EffectsSpecs/index.html#part">part</a> reply part&#x27; Change = <a href="../../machine/EffectsSpecs/index.html#OnLive">OnLive</a> found ((reply ≡ NoSuch) × (part&#x27; ≡ <a href="../../machine/EffectsSpecs/index.html#part">part</a>))
     (λ x. (x&#x27; : _) × Change x x&#x27; × (part&#x27; ≡ put x&#x27;))
@@ -3825,16 +3762,15 @@ module _ {S : Type 0} (w : <a href="../../machine/StateSpecs/index.html#World">W
 </code></pre>
 "####]
     pub mod EffectsSpecs {}
-    #[doc = r####"Exchanges: what passes between a machine and its limiter in one turn, the question of each call, the size that grows by it, and what growths and writes over a range are charged.
+    #[doc = r####"Exchanges: what passes between a machine and its limiter in one turn, the question of each call, the replies to it, the size that grows by it, and what growths and writes over a range are charged.
 
 <pre><code>use Rattle.std.specs.Prelude.{◌≡◌, ◌≢◌, ◌≤◌, ◌-◌, ◌⊎◌, ◌++◌, ℕ, Option, Some, None, Ok, true, nat_eq, is_none, if◌then◌else◌, List, [], ◌∷◌, slice_get, slice_set}
 use Rattle.std.specs.Option.{option_map, option_and_then}
-use Rattle.wasmi_meter.specs.declared.limiter.Kind.{Kind}
+use Rattle.wasmi_meter.specs.declared.{limiter.Kind.Kind, fuel.CustomFuelCosts.CustomFuelCosts}
 use Rattle.wasmi_meter.specs.declared.limiter.Kind.TheVariants.{Bytes, Elements}
 use Rattle.wasmi_meter.specs.declared.error.MemoryError.TheVariants as memory_error
 use Rattle.wasmi_meter.specs.declared.error.TableError.TheVariants as table_error
 use Rattle.wasmi_meter.specs.Limiter.{<a href="../../meter/LimiterSpecs/index.html#Question">Question</a>, <a href="../../meter/LimiterSpecs/index.html#Answer">Answer</a>, <a href="../../meter/LimiterSpecs/index.html#IsDenial">IsDenial</a>, <a href="../../meter/LimiterSpecs/index.html#Failure">Failure</a>, <a href="../../meter/LimiterSpecs/index.html#MemoryFailure">MemoryFailure</a>, <a href="../../meter/LimiterSpecs/index.html#TableFailure">TableFailure</a>, <a href="../../meter/LimiterSpecs/index.html#kind_of">kind_of</a>, <a href="../../meter/LimiterSpecs/index.html#NoticeAnswer">NoticeAnswer</a>, <a href="../../meter/LimiterSpecs/index.html#Rules">Rules</a>}
-use Rattle.wasmi_meter.specs.declared.fuel.CustomFuelCosts.{CustomFuelCosts}
 use Rattle.wasmi_meter.specs.Meter.{<a href="../../meter/MeterSpecs/index.html#copy_cost">copy_cost</a>, <a href="../../meter/MeterSpecs/index.html#Meter">Meter</a>, <a href="../../meter/MeterSpecs/index.html#due">due</a>}
 use Rattle.wasmi_meter.specs.Attempt.{<a href="../../meter/AttemptSpecs/index.html#Request">Request</a>, <a href="../../meter/AttemptSpecs/index.html#error_of_failure">error_of_failure</a>, <a href="../../meter/AttemptSpecs/index.html#optional_due">optional_due</a>}
 use Rattle.wasmi_store.specs.Buffer.{<a href="../../store/BufferSpecs/index.html#Owned">Owned</a>, <a href="../../store/BufferSpecs/index.html#Lent">Lent</a>}
@@ -3843,8 +3779,7 @@ use Rattle.wasmi_store.specs.Write.{<a href="../../store/WriteSpecs/index.html#i
 use Rattle.wasmi_store.specs.Memory as memory
 use Rattle.wasmi_store.specs.Table as table
 use Rattle.wasmi_store.specs.Table.{<a href="../../store/TableSpecs/index.html#TableValue">TableValue</a>, <a href="../../store/TableSpecs/index.html#same_type">same_type</a>}
-use Rattle.wasmi_machine.specs.declared.calls.Call.{Call}
-use Rattle.wasmi_machine.specs.declared.calls.Reply.{Reply}
+use Rattle.wasmi_machine.specs.declared.{calls.Call.Call, calls.Reply.Reply}
 use Rattle.wasmi_machine.specs.declared.calls.Reply.TheVariants.{Done, Memory, Table, NoRoom}
 use Rattle.wasmi_machine.specs.State.{<a href="../../machine/StateSpecs/index.html#State">State</a>, <a href="../../machine/StateSpecs/index.html#live_at">live_at</a>, <a href="../../machine/StateSpecs/index.html#World">World</a>, <a href="../../machine/StateSpecs/index.html#Turn">Turn</a>, <a href="../../machine/StateSpecs/index.html#IsRefusal">IsRefusal</a>, <a href="../../machine/StateSpecs/index.html#sizes">sizes</a>}
 use Rattle.wasmi_machine.specs.Account.{<a href="../../machine/AccountSpecs/index.html#ChangesMeter">ChangesMeter</a>}
@@ -3957,8 +3892,7 @@ abbrev pub <b id="bytes_of_one">bytes_of_one</b> : Kind → ℕ
 abbrev pub <b id="growth_due">growth_due</b> : <a href="../../meter/MeterSpecs/index.html#Meter">Meter</a> → <a href="../../meter/LimiterSpecs/index.html#Question">Question</a> → ℕ
 <a href="../../machine/ExchangeSpecs/index.html#growth_due">growth_due</a> m q = <a href="../../meter/MeterSpecs/index.html#due">due</a> m (λ costs. <a href="../../meter/MeterSpecs/index.html#copy_cost">copy_cost</a> costs (q.desired - q.current) (<a href="../../machine/ExchangeSpecs/index.html#bytes_of_one">bytes_of_one</a> q.kind))
 
--- what is charged of a price for a growth that failed: memory is refused after it was paid, and each other cause is
--- found before
+-- what a failed growth is charged of a price: memory is refused after it was paid, each other cause is found before
 abbrev pub <b id="failed_charge">failed_charge</b> : <a href="../../meter/LimiterSpecs/index.html#Failure">Failure</a> → ℕ → ℕ
 <a href="../../machine/ExchangeSpecs/index.html#failed_charge">failed_charge</a> (<a href="../../meter/LimiterSpecs/index.html#MemoryFailure">MemoryFailure</a> memory_error.OutOfSystemMemory) price = price
 <a href="../../machine/ExchangeSpecs/index.html#failed_charge">failed_charge</a> (<a href="../../meter/LimiterSpecs/index.html#TableFailure">TableFailure</a> table_error.OutOfSystemMemory) price = price
@@ -4014,22 +3948,19 @@ pub record <b id="Exchanges">Exchanges</b> {S : Type 0} (rules : <a href="../../
 </code></pre>
 "####]
     pub mod ExchangeSpecs {}
-    #[doc = r####"What holds of all turns and runs of a machine: the statements of its laws, and what a refused turn keeps.
+    #[doc = r####"What holds of all turns and runs of a machine, and of its memories in lent regions: the statements of its laws, and what a refused turn keeps.
 
 <pre><code><a href="../../machine/LawsSpecs/index.html#use">use</a> Rattle.std.specs.Prelude.{◌≡◌, ◌⊎◌, ◌&lt;◌, ◌≤◌, ◌+◌, ◌*◌, ◌++◌, ℕ, true, Option, Some, Result, Ok, List, length, map, All}
-<a href="../../machine/LawsSpecs/index.html#use">use</a> Rattle.wasmi_meter.specs.declared.quota.Holdings.{Holdings}
+<a href="../../machine/LawsSpecs/index.html#use">use</a> Rattle.wasmi_meter.specs.declared.{quota.Holdings.Holdings, error.MemoryError.MemoryError, quota.Quota.Quota}
 <a href="../../machine/LawsSpecs/index.html#use">use</a> Rattle.wasmi_meter.specs.Meter.{<a href="../../meter/MeterSpecs/index.html#PaysCharge">PaysCharge</a>}
 <a href="../../machine/LawsSpecs/index.html#use">use</a> Rattle.wasmi_meter.specs.Limiter.{<a href="../../meter/LimiterSpecs/index.html#Question">Question</a>, <a href="../../meter/LimiterSpecs/index.html#Rules">Rules</a>, <a href="../../meter/LimiterSpecs/index.html#Failure">Failure</a>, <a href="../../meter/LimiterSpecs/index.html#NoticeAnswer">NoticeAnswer</a>, <a href="../../meter/LimiterSpecs/index.html#optional_rules">optional_rules</a>}
 <a href="../../machine/LawsSpecs/index.html#use">use</a> Rattle.wasmi_meter.specs.Attempt.{<a href="../../meter/AttemptSpecs/index.html#MeteredValue">MeteredValue</a>, <a href="../../meter/AttemptSpecs/index.html#optional_due">optional_due</a>, <a href="../../meter/AttemptSpecs/index.html#covers">covers</a>}
-<a href="../../machine/LawsSpecs/index.html#use">use</a> Rattle.wasmi_meter.specs.declared.error.MemoryError.{MemoryError}
-<a href="../../machine/LawsSpecs/index.html#use">use</a> Rattle.wasmi_meter.specs.declared.quota.Quota.{Quota}
 <a href="../../machine/LawsSpecs/index.html#use">use</a> Rattle.wasmi_meter.specs.Capped.{<a href="../../meter/CappedSpecs/index.html#SameCaps">SameCaps</a>, <a href="../../meter/CappedSpecs/index.html#IsWithinCaps">IsWithinCaps</a>, <a href="../../meter/CappedSpecs/index.html#quota_rules">quota_rules</a>}
 <a href="../../machine/LawsSpecs/index.html#use">use</a> Rattle.wasmi_store.specs.Buffer.{<a href="../../store/BufferSpecs/index.html#Lent">Lent</a>, <a href="../../store/BufferSpecs/index.html#fits_room">fits_room</a>}
 <a href="../../machine/LawsSpecs/index.html#use">use</a> Rattle.wasmi_store.specs.Growth.{<a href="../../store/GrowthSpecs/index.html#IsDenied">IsDenied</a>}
 <a href="../../machine/LawsSpecs/index.html#use">use</a> Rattle.wasmi_store.specs.Memory.{<a href="../../store/MemorySpecs/index.html#MemoryTypeValue">MemoryTypeValue</a>, <a href="../../store/MemorySpecs/index.html#page_bytes">page_bytes</a>, <a href="../../store/MemorySpecs/index.html#minimum_bytes">minimum_bytes</a>, <a href="../../store/MemorySpecs/index.html#in_bounds">in_bounds</a>, <a href="../../store/MemorySpecs/index.html#MemoryValue">MemoryValue</a>, <a href="../../store/MemorySpecs/index.html#pages_of">pages_of</a>, <a href="../../store/MemorySpecs/index.html#growth_of">growth_of</a>, <a href="../../store/MemorySpecs/index.html#GrowsMemory">GrowsMemory</a>}
-<a href="../../machine/LawsSpecs/index.html#use">use</a> Rattle.wasmi_machine.specs.declared.calls.Call.{Call}
+<a href="../../machine/LawsSpecs/index.html#use">use</a> Rattle.wasmi_machine.specs.declared.{calls.Call.Call, calls.Reply.Reply}
 <a href="../../machine/LawsSpecs/index.html#use">use</a> Rattle.wasmi_machine.specs.declared.calls.Call.TheVariants.{NewMemory, NewLentMemory}
-<a href="../../machine/LawsSpecs/index.html#use">use</a> Rattle.wasmi_machine.specs.declared.calls.Reply.{Reply}
 <a href="../../machine/LawsSpecs/index.html#use">use</a> Rattle.wasmi_machine.specs.State.{<a href="../../machine/StateSpecs/index.html#State">State</a>, <a href="../../machine/StateSpecs/index.html#World">World</a>, <a href="../../machine/StateSpecs/index.html#Turn">Turn</a>, <a href="../../machine/StateSpecs/index.html#world">world</a>, <a href="../../machine/StateSpecs/index.html#IsValid">IsValid</a>, <a href="../../machine/StateSpecs/index.html#IsValidCall">IsValidCall</a>, <a href="../../machine/StateSpecs/index.html#HoldsTotals">HoldsTotals</a>}
 pub <b id="use">use</b> Rattle.wasmi_machine.specs.State.{<a href="../../machine/StateSpecs/index.html#IsRefusal">IsRefusal</a>}
 <a href="../../machine/LawsSpecs/index.html#use">use</a> Rattle.wasmi_machine.specs.Steps.{<a href="../../machine/StepsSpecs/index.html#Step">Step</a>, <a href="../../machine/StepsSpecs/index.html#Sequence">Sequence</a>, <a href="../../machine/StepsSpecs/index.html#Run">Run</a>, <a href="../../machine/StepsSpecs/index.html#IsRunOf">IsRunOf</a>}
@@ -4109,9 +4040,8 @@ module _ {S : Type 0} (rules : <a href="../../meter/LimiterSpecs/index.html#Rule
 
   -- a run in which no reply reports a denial is one in which each question was permitted
   abbrev pub <b id="RepliesPermit">RepliesPermit</b> : Type 0
-  <a href="../../machine/LawsSpecs/index.html#RepliesPermit">RepliesPermit</a> =
-      (w : <a href="../../machine/StateSpecs/index.html#World">World</a> S) (turns : List <a href="../../machine/StateSpecs/index.html#Turn">Turn</a>) (w&#x27; : <a href="../../machine/StateSpecs/index.html#World">World</a> S) → All <a href="../../machine/DeterminismSpecs/index.html#TellsNoDenial">TellsNoDenial</a> (map Turn.reply turns) → <a href="../../machine/StepsSpecs/index.html#Run">Run</a> rules w turns w&#x27;
-      → <a href="../../machine/StepsSpecs/index.html#Run">Run</a> (<a href="../../machine/DeterminismSpecs/index.html#permitting">permitting</a> rules) w turns w&#x27;
+  <a href="../../machine/LawsSpecs/index.html#RepliesPermit">RepliesPermit</a> = (w : <a href="../../machine/StateSpecs/index.html#World">World</a> S) (turns : List <a href="../../machine/StateSpecs/index.html#Turn">Turn</a>) (w&#x27; : <a href="../../machine/StateSpecs/index.html#World">World</a> S) → All <a href="../../machine/DeterminismSpecs/index.html#TellsNoDenial">TellsNoDenial</a> (map Turn.reply turns)
+      → <a href="../../machine/StepsSpecs/index.html#Run">Run</a> rules w turns w&#x27; → <a href="../../machine/StepsSpecs/index.html#Run">Run</a> (<a href="../../machine/DeterminismSpecs/index.html#permitting">permitting</a> rules) w turns w&#x27;
 
   -- a run of calls whose types are valid leads from a valid state to a valid one
   abbrev pub <b id="RunsKeepValidity">RunsKeepValidity</b> : Type 0
@@ -4122,16 +4052,14 @@ module _ {S : Type 0} (rules : <a href="../../meter/LimiterSpecs/index.html#Rule
   -- while metering is on, what is left and the charges since the fuel was set last, or since the start, are what was
   -- set then, or left at the start
   abbrev pub <b id="FuelBalances">FuelBalances</b> : Type 0
-  <a href="../../machine/LawsSpecs/index.html#FuelBalances">FuelBalances</a> = (w : <a href="../../machine/StateSpecs/index.html#World">World</a> S) (left : ℕ) → w.state.meter.left ≡ Some left
-      → (turns : List <a href="../../machine/StateSpecs/index.html#Turn">Turn</a>) (w&#x27; : <a href="../../machine/StateSpecs/index.html#World">World</a> S) → <a href="../../machine/StepsSpecs/index.html#Run">Run</a> rules w turns w&#x27;
-      → <a href="../../machine/AccountSpecs/index.html#Balances">Balances</a> (<a href="../../machine/AccountSpecs/index.html#account_after">account_after</a> (<a href="../../machine/AccountSpecs/index.html#opened">opened</a> left) turns) w&#x27;.state.meter
+  <a href="../../machine/LawsSpecs/index.html#FuelBalances">FuelBalances</a> = (w : <a href="../../machine/StateSpecs/index.html#World">World</a> S) (left : ℕ) → w.state.meter.left ≡ Some left → (turns : List <a href="../../machine/StateSpecs/index.html#Turn">Turn</a>) (w&#x27; : <a href="../../machine/StateSpecs/index.html#World">World</a> S)
+      → <a href="../../machine/StepsSpecs/index.html#Run">Run</a> rules w turns w&#x27; → <a href="../../machine/AccountSpecs/index.html#Balances">Balances</a> (<a href="../../machine/AccountSpecs/index.html#account_after">account_after</a> (<a href="../../machine/AccountSpecs/index.html#opened">opened</a> left) turns) w&#x27;.state.meter
 
   -- while metering is on at a rate above 0, the bytes that a run writes by growing and copying are bounded by the fuel
   -- that is charged for them, and so by all the fuel that there was
   abbrev pub <b id="FuelBoundsWriting">FuelBoundsWriting</b> : Type 0
-  <a href="../../machine/LawsSpecs/index.html#FuelBoundsWriting">FuelBoundsWriting</a> =
-      (w : <a href="../../machine/StateSpecs/index.html#World">World</a> S) (left : ℕ) → w.state.meter.left ≡ Some left → 0 &lt; w.state.meter.costs.bytes_copied_per_fuel
-      → (turns : List <a href="../../machine/StateSpecs/index.html#Turn">Turn</a>) (w&#x27; : <a href="../../machine/StateSpecs/index.html#World">World</a> S) → <a href="../../machine/StepsSpecs/index.html#Run">Run</a> rules w turns w&#x27;
+  <a href="../../machine/LawsSpecs/index.html#FuelBoundsWriting">FuelBoundsWriting</a> = (w : <a href="../../machine/StateSpecs/index.html#World">World</a> S) (left : ℕ) → w.state.meter.left ≡ Some left
+      → 0 &lt; w.state.meter.costs.bytes_copied_per_fuel → (turns : List <a href="../../machine/StateSpecs/index.html#Turn">Turn</a>) (w&#x27; : <a href="../../machine/StateSpecs/index.html#World">World</a> S) → <a href="../../machine/StepsSpecs/index.html#Run">Run</a> rules w turns w&#x27;
       → <a href="../../machine/AccountSpecs/index.html#IsBounded">IsBounded</a> w.state.meter.costs.bytes_copied_per_fuel left turns
 
   -- while metering is on, what calls that don&#x27;t set the fuel were charged is what was left before and isn&#x27;t left after,
@@ -4152,21 +4080,18 @@ module _ {S : Type 0} (rules : <a href="../../meter/LimiterSpecs/index.html#Rule
       (calls calls&#x27; : List Call) (u v w : <a href="../../machine/StateSpecs/index.html#World">World</a> S) (<a href="../../machine/LawsSpecs/index.html#replies">replies</a> replies&#x27; : List Reply) → <a href="../../machine/StepsSpecs/index.html#IsRunOf">IsRunOf</a> rules calls u <a href="../../machine/LawsSpecs/index.html#replies">replies</a> v
       → <a href="../../machine/StepsSpecs/index.html#IsRunOf">IsRunOf</a> rules calls&#x27; v replies&#x27; w → <a href="../../machine/StepsSpecs/index.html#IsRunOf">IsRunOf</a> rules (calls ++ calls&#x27;) u (<a href="../../machine/LawsSpecs/index.html#replies">replies</a> ++ replies&#x27;) w
 
-  -- a run that makes no memory in a region and grows none past its own is a run of the same machine with memories of
-  -- their own
+  -- a run that makes no memory in a region and grows none past its own is one of the machine with owned memories
   abbrev pub <b id="LentRunsAreOwned">LentRunsAreOwned</b> : Type 0
   <a href="../../machine/LawsSpecs/index.html#LentRunsAreOwned">LentRunsAreOwned</a> = (w : <a href="../../machine/StateSpecs/index.html#World">World</a> S) (turns : List <a href="../../machine/StateSpecs/index.html#Turn">Turn</a>) (w&#x27; : <a href="../../machine/StateSpecs/index.html#World">World</a> S) → <a href="../../machine/LentMemorySpecs/index.html#RunInRegions">RunInRegions</a> rules w turns w&#x27;
       → <a href="../../machine/StepsSpecs/index.html#Run">Run</a> rules (<a href="../../machine/LentMemorySpecs/index.html#owned_world">owned_world</a> w) turns (<a href="../../machine/LentMemorySpecs/index.html#owned_world">owned_world</a> w&#x27;)
 
   -- a creation in a spare region of at least the minimum is a creation of a memory of its own
   abbrev pub <b id="LentCreationsAreOwned">LentCreationsAreOwned</b> : Type 0
-  <a href="../../machine/LawsSpecs/index.html#LentCreationsAreOwned">LentCreationsAreOwned</a> =
-      (w : <a href="../../machine/StateSpecs/index.html#World">World</a> S) (turn : <a href="../../machine/StateSpecs/index.html#Turn">Turn</a>) (w&#x27; : <a href="../../machine/StateSpecs/index.html#World">World</a> S) (ty : <a href="../../store/MemorySpecs/index.html#MemoryTypeValue">MemoryTypeValue</a>) (region : List ℕ) → turn.call ≡ NewLentMemory ty
-      → w.state.<a href="../../machine/LawsSpecs/index.html#spare">spare</a> ≡ Some region → <a href="../../store/MemorySpecs/index.html#minimum_bytes">minimum_bytes</a> ty ≤ length region
+  <a href="../../machine/LawsSpecs/index.html#LentCreationsAreOwned">LentCreationsAreOwned</a> = (w : <a href="../../machine/StateSpecs/index.html#World">World</a> S) (turn : <a href="../../machine/StateSpecs/index.html#Turn">Turn</a>) (w&#x27; : <a href="../../machine/StateSpecs/index.html#World">World</a> S) (ty : <a href="../../store/MemorySpecs/index.html#MemoryTypeValue">MemoryTypeValue</a>) (region : List ℕ)
+      → turn.call ≡ NewLentMemory ty → w.state.<a href="../../machine/LawsSpecs/index.html#spare">spare</a> ≡ Some region → <a href="../../store/MemorySpecs/index.html#minimum_bytes">minimum_bytes</a> ty ≤ length region
       → <a href="../../machine/StepsSpecs/index.html#Step">Step</a> rules w turn w&#x27; → <a href="../../machine/StepsSpecs/index.html#Step">Step</a> rules (<a href="../../machine/LentMemorySpecs/index.html#unlent_world">unlent_world</a> w) (record turn { call = NewMemory ty }) (<a href="../../machine/LentMemorySpecs/index.html#unlent_world">unlent_world</a> w&#x27;)
 
-  -- a growth of a lent memory that its type and its region have place for, and that can be paid, is refused by the
-  -- limiter alone
+  -- a growth of a lent memory that its type and region have place for, and that can be paid, the limiter alone refuses
   abbrev pub <b id="LentGrowthsSucceed">LentGrowthsSucceed</b> : Type 0
   <a href="../../machine/LawsSpecs/index.html#LentGrowthsSucceed">LentGrowthsSucceed</a> = (pages : ℕ) (s : <a href="../../meter/AttemptSpecs/index.html#MeteredValue">MeteredValue</a> <a href="../../store/MemorySpecs/index.html#MemoryValue">MemoryValue</a> S) (rest : List ℕ) → s.value.room ≡ <a href="../../store/BufferSpecs/index.html#Lent">Lent</a> rest
       → <a href="../../store/MemorySpecs/index.html#in_bounds">in_bounds</a> s.value.ty (<a href="../../store/MemorySpecs/index.html#pages_of">pages_of</a> s.value + pages) ≡ true
@@ -4213,15 +4138,14 @@ abbrev pub <b id="QuotasStayWithin">QuotasStayWithin</b> : Type 0
 </code></pre>
 "####]
     pub mod LawsSpecs {}
-    #[doc = r####"Machines with memories in lent regions, beside the same machines with memories of their own.
+    #[doc = r####"Machines with memories in lent regions, beside the same machines with memories of their own; growths, calls and runs that fit these regions.
 
 <pre><code>use Rattle.std.specs.Prelude.{◌≡◌, ◌⊎◌, ◌+◌, ◌*◌, ℕ, true, false, List, map, None}
 use Rattle.wasmi_meter.specs.Limiter.{<a href="../../meter/LimiterSpecs/index.html#Rules">Rules</a>}
 use Rattle.wasmi_store.specs.Buffer.{<a href="../../store/BufferSpecs/index.html#Owned">Owned</a>, <a href="../../store/BufferSpecs/index.html#fits_room">fits_room</a>}
 use Rattle.wasmi_store.specs.Memory.{<a href="../../store/MemorySpecs/index.html#page_bytes">page_bytes</a>, <a href="../../store/MemorySpecs/index.html#in_bounds">in_bounds</a>, <a href="../../store/MemorySpecs/index.html#MemoryValue">MemoryValue</a>, <a href="../../store/MemorySpecs/index.html#pages_of">pages_of</a>}
-use Rattle.wasmi_machine.specs.declared.calls.Call.{Call}
+use Rattle.wasmi_machine.specs.declared.{calls.Call.Call, slots.Slot.Slot}
 use Rattle.wasmi_machine.specs.declared.calls.Call.TheVariants.{NewLentMemory, GrowMemory}
-use Rattle.wasmi_machine.specs.declared.slots.Slot.{Slot}
 use Rattle.wasmi_machine.specs.declared.slots.Slot.TheVariants.{Live, Gone}
 use Rattle.wasmi_machine.specs.State.{<a href="../../machine/StateSpecs/index.html#State">State</a>, <a href="../../machine/StateSpecs/index.html#live_at">live_at</a>, <a href="../../machine/StateSpecs/index.html#World">World</a>, <a href="../../machine/StateSpecs/index.html#Turn">Turn</a>}
 use Rattle.wasmi_machine.specs.Effects.{<a href="../../machine/EffectsSpecs/index.html#OnLive">OnLive</a>}
@@ -4278,10 +4202,8 @@ use Rattle.wasmi_meter.specs.declared.error.MemoryError.TheVariants.{OutOfBounds
 use Rattle.wasmi_meter.specs.Limiter.{<a href="../../meter/LimiterSpecs/index.html#Rules">Rules</a>}
 use Rattle.wasmi_store.specs.Buffer.{<a href="../../store/BufferSpecs/index.html#Lent">Lent</a>}
 use Rattle.wasmi_store.specs.Memory.{<a href="../../store/MemorySpecs/index.html#MemoryTypeValue">MemoryTypeValue</a>, <a href="../../store/MemorySpecs/index.html#page_bytes">page_bytes</a>, <a href="../../store/MemorySpecs/index.html#MemoryValue">MemoryValue</a>, <a href="../../store/MemorySpecs/index.html#MakesMemory">MakesMemory</a>, <a href="../../store/MemorySpecs/index.html#MemoryWrite">MemoryWrite</a>, <a href="../../store/MemorySpecs/index.html#WritesMemory">WritesMemory</a>, <a href="../../store/MemorySpecs/index.html#byte_copy_of">byte_copy_of</a>, <a href="../../store/MemorySpecs/index.html#byte_filling_of">byte_filling_of</a>}
-use Rattle.wasmi_machine.specs.declared.calls.Reply.{Reply}
+use Rattle.wasmi_machine.specs.declared.{calls.Reply.Reply, memories.Stored.Stored, slots.Slot.Slot}
 use Rattle.wasmi_machine.specs.declared.calls.Reply.TheVariants.{Done, Value, Number, Bytes, Memory, Trap, NoSuch, NoRegion, NoRoom}
-use Rattle.wasmi_machine.specs.declared.memories.Stored.{Stored}
-use Rattle.wasmi_machine.specs.declared.slots.Slot.{Slot}
 use Rattle.wasmi_ops.specs.declared.load_store.LoadOp.{LoadOp}
 use Rattle.wasmi_ops.specs.LoadStoreOps.{<a href="../../ops/LoadStoreOpsSpecs/index.html#loaded_raw">loaded_raw</a>, <a href="../../ops/LoadStoreOpsSpecs/index.html#stored_bytes">stored_bytes</a>}
 use Rattle.wasmi_ops.specs.LaneOps.{<a href="../../ops/LaneOpsSpecs/index.html#stored_lane">stored_lane</a>}
@@ -4357,7 +4279,7 @@ abbrev pub <b id="WritesMemoryFrom">WritesMemoryFrom</b> : {Y : Type 0} → Opti
     → <a href="../../machine/EffectsSpecs/index.html#MeteredSlots">MeteredSlots</a> <a href="../../store/MemorySpecs/index.html#MemoryValue">MemoryValue</a> → Reply → ℕ → <a href="../../machine/EffectsSpecs/index.html#MeteredSlots">MeteredSlots</a> <a href="../../store/MemorySpecs/index.html#MemoryValue">MemoryValue</a> → Type 0
 <a href="../../machine/MemoryEffectsSpecs/index.html#WritesMemoryFrom">WritesMemoryFrom</a> = <a href="../../machine/EffectsSpecs/index.html#WritesFrom">WritesFrom</a> Memory
 
--- what is copied over a part of a memory is of another one
+-- what a call copies over a part of a memory is of another one
 abbrev pub <b id="memory_copy_of">memory_copy_of</b> : ℕ → ℕ → ℕ → <a href="../../store/MemorySpecs/index.html#MemoryValue">MemoryValue</a> → <a href="../../store/MemorySpecs/index.html#MemoryValue">MemoryValue</a> → <a href="../../store/MemorySpecs/index.html#MemoryWrite">MemoryWrite</a>
 <a href="../../machine/MemoryEffectsSpecs/index.html#memory_copy_of">memory_copy_of</a> dst src len source = <a href="../../store/MemorySpecs/index.html#byte_copy_of">byte_copy_of</a> dst src len source.bytes
 
@@ -4373,7 +4295,7 @@ abbrev pub <b id="StoresMemoryAt">StoresMemoryAt</b> : ℕ → ℕ → List ℕ 
 </code></pre>
 "####]
     pub mod MemoryEffectsSpecs {}
-    #[doc = r####"The calls on registers and on the vectors in them, loads and stores of vectors included: their replies, and what each does to the registers.
+    #[doc = r####"The calls on registers and on vectors in them, also loads and stores: their replies, and what each does to registers.
 
 <pre><code>use Rattle.std.specs.Prelude.{◌≡◌, ℕ, Option, Some, None, Result, Ok, Err, List, slice_get, slice_set}
 use Rattle.std.specs.Option.{option_map, option_map_or, option_and_then}
@@ -4381,13 +4303,11 @@ use Rattle.wasmi_types.specs.declared.trap.TrapCode.{TrapCode}
 use Rattle.wasmi_raw.specs.declared.raw.RawVal.{RawVal}
 use Rattle.wasmi_raw.specs.RawVal.{<a href="../../raw/RawValSpecs/index.html#vector_in">vector_in</a>, <a href="../../raw/RawValSpecs/index.html#raw_of_vector">raw_of_vector</a>}
 use Rattle.wasmi_store.specs.Memory.{<a href="../../store/MemorySpecs/index.html#MemoryValue">MemoryValue</a>}
-use Rattle.wasmi_ops.specs.declared.vector.VectorLoadOp.{VectorLoadOp}
-use Rattle.wasmi_ops.specs.declared.vector.LoadLaneOp.{LoadLaneOp}
+use Rattle.wasmi_ops.specs.declared.{vector.VectorLoadOp.VectorLoadOp, vector.LoadLaneOp.LoadLaneOp}
 use Rattle.wasmi_ops.specs.VectorOps.{<a href="../../ops/VectorOpsSpecs/index.html#loaded_vector">loaded_vector</a>}
 use Rattle.wasmi_ops.specs.LaneOps.{<a href="../../ops/LaneOpsSpecs/index.html#loaded_lane">loaded_lane</a>}
-use Rattle.wasmi_machine.specs.declared.calls.Reply.{Reply}
+use Rattle.wasmi_machine.specs.declared.{calls.Reply.Reply, slots.Slot.Slot}
 use Rattle.wasmi_machine.specs.declared.calls.Reply.TheVariants.{Done, Value, Trap, NoSuch}
-use Rattle.wasmi_machine.specs.declared.slots.Slot.{Slot}
 use Rattle.wasmi_ops.specs.LoadStoreOps.{<a href="../../ops/LoadStoreOpsSpecs/index.html#as_raw">as_raw</a>}
 use Rattle.wasmi_machine.specs.MemoryEffects.{<a href="../../machine/MemoryEffectsSpecs/index.html#StoresMemoryAt">StoresMemoryAt</a>}
 
@@ -4395,8 +4315,7 @@ use Rattle.wasmi_machine.specs.MemoryEffects.{<a href="../../machine/MemoryEffec
 abbrev pub <b id="vector_at">vector_at</b> : List RawVal → ℕ → Option ℕ
 <a href="../../machine/RegisterEffectsSpecs/index.html#vector_at">vector_at</a> registers r = option_map <a href="../../raw/RawValSpecs/index.html#vector_in">vector_in</a> (slice_get registers r)
 
--- a register, if there is one, takes what a call gives it: the value; a trap keeps it; an operand that names nothing
--- gives nothing
+-- a register, if there is one, takes the value that a call gives it; a trap keeps it; an absent operand gives nothing
 abbrev pub <b id="SetsAt">SetsAt</b> : Option (Result RawVal TrapCode) → Option RawVal → ℕ → List RawVal → Reply → List RawVal → Type 0
 <a href="../../machine/RegisterEffectsSpecs/index.html#SetsAt">SetsAt</a> None old dst registers reply registers&#x27; = (reply ≡ NoSuch) × (registers&#x27; ≡ registers)
 <a href="../../machine/RegisterEffectsSpecs/index.html#SetsAt">SetsAt</a> (Some given) None dst registers reply registers&#x27; = (reply ≡ NoSuch) × (registers&#x27; ≡ registers)
@@ -4489,15 +4408,10 @@ use Rattle.wasmi_store.specs.Memory.{<a href="../../store/MemorySpecs/index.html
 use Rattle.wasmi_store.specs.Segment.{<a href="../../store/SegmentSpecs/index.html#SegmentValue">SegmentValue</a>, <a href="../../store/SegmentSpecs/index.html#most_items">most_items</a>}
 use Rattle.wasmi_store.specs.Table.{<a href="../../store/TableSpecs/index.html#TableValue">TableValue</a>, <a href="../../store/TableSpecs/index.html#size_of">size_of</a>, <a href="../../store/TableSpecs/index.html#IsValidTable">IsValidTable</a>}
 use Rattle.wasmi_machine.specs.ReservedList.{<a href="../../machine/ReservedListSpecs/index.html#with_item">with_item</a>}
-use Rattle.wasmi_machine.specs.declared.slots.Slot.{Slot}
+use Rattle.wasmi_machine.specs.declared.{slots.Slot.Slot, slots.Slots.Slots, slots.SlotCounts.SlotCounts, calls.Call.Call, calls.Reply.Reply}
 use Rattle.wasmi_machine.specs.declared.slots.Slot.TheVariants.{Live, Gone}
-use Rattle.wasmi_machine.specs.declared.slots.Slots.{Slots}
-use Rattle.wasmi_machine.specs.declared.slots.SlotCounts.{SlotCounts}
-use Rattle.wasmi_machine.specs.declared.calls.Call.{Call}
-use Rattle.wasmi_machine.specs.declared.calls.Reply.{Reply}
-use Rattle.wasmi_meter.specs.declared.limiter.Kind.{Kind}
+use Rattle.wasmi_meter.specs.declared.{limiter.Kind.Kind, quota.Holdings.Holdings}
 use Rattle.wasmi_meter.specs.declared.limiter.Kind.TheVariants.{Bytes, Elements}
-use Rattle.wasmi_meter.specs.declared.quota.Holdings.{Holdings}
 use Rattle.wasmi_machine.specs.declared.calls.Call.TheVariants.{NewMemory, NewLentMemory, NewTable}
 use Rattle.wasmi_machine.specs.declared.calls.Reply.TheVariants as <a href="../../machine/StateSpecs/index.html#reply">reply</a>
 use Rattle.wasmi_store.specs.Memory as memory
@@ -4611,8 +4525,7 @@ pub record <b id="World">World</b> (S : Type 0) : Type 0 where
 abbrev pub <b id="world">world</b> : {S : Type 0} → <a href="../../machine/StateSpecs/index.html#State">State</a> → S → <a href="../../machine/StateSpecs/index.html#World">World</a> S
 <a href="../../machine/StateSpecs/index.html#world">world</a> machine <a href="../../machine/StateSpecs/index.html#limiter">limiter</a> = record { <a href="../../machine/StateSpecs/index.html#state">state</a> = machine; <a href="../../machine/StateSpecs/index.html#limiter">limiter</a> = <a href="../../machine/StateSpecs/index.html#limiter">limiter</a> }
 
--- one call with its reply, the fuel that it was charged, and how many bytes it has written by a growth or over a range
--- of a memory or a table
+-- one call with its reply, the fuel that it was charged, and the bytes that it has written by a growth or over a range
 pub record <b id="Turn">Turn</b> : Type 0 where
   pub <b id="call">call</b> : Call
   pub <b id="reply">reply</b> : Reply
@@ -4692,17 +4605,15 @@ abbrev pub <b id="IsValidCall">IsValidCall</b> : Call → Type 0
 </code></pre>
 "####]
     pub mod StateSpecs {}
-    #[doc = r####"Steps and runs of a machine: the subject and the effect of each call, the vector that it makes, whether it is charged for what it writes, what each effect changes in a world, and turns one after another.
+    #[doc = r####"Steps and runs of a machine: the subject and the effect of each call, the vector that it makes, whether it is charged for what it writes, what each effect changes in a world, the replies to it, also by a copy of a slice, and turns one after another.
 
 <pre><code>use Rattle.std.specs.Prelude.{◌≡◌, ◌⊎◌, ◌+◌, ◌&lt;◌, ◌≤◌, ℕ, Bool, true, false, List, Option, Some, None, Result, Ok, Vec, slice_get, [], ◌∷◌, length, map}
 use Rattle.std.specs.Global.{Global}
 use Rattle.std.specs.Option.{option_map, option_and_then}
 use Rattle.wasmi_types.specs.Numbers.{<a href="../../types/NumbersSpecs/index.html#le_bytes">le_bytes</a>}
-use Rattle.wasmi_types.specs.declared.trap.TrapCode.{TrapCode}
-use Rattle.wasmi_types.specs.declared.value.RefType.{RefType}
+use Rattle.wasmi_types.specs.declared.{trap.TrapCode.TrapCode, value.RefType.RefType}
 use Rattle.wasmi_raw.specs.declared.raw.RawVal.{RawVal}
-use Rattle.wasmi_typed.specs.declared.typed.TypedRawVal.{TypedRawVal}
-use Rattle.wasmi_typed.specs.declared.typed_ref.TypedRawRef.{TypedRawRef}
+use Rattle.wasmi_typed.specs.declared.{typed.TypedRawVal.TypedRawVal, typed_ref.TypedRawRef.TypedRawRef}
 use Rattle.wasmi_typed.specs.Global.{<a href="../../typed/GlobalSpecs/index.html#GlobalInstance">GlobalInstance</a>}
 use Rattle.wasmi_lanewise.specs.VectorTable.{<a href="../../lanewise/VectorTableSpecs/index.html#shuffle">shuffle</a>}
 use Rattle.wasmi_ops.specs.VectorOps.{<a href="../../ops/VectorOpsSpecs/index.html#binary_vector">binary_vector</a>, <a href="../../ops/VectorOpsSpecs/index.html#made_vector">made_vector</a>, <a href="../../ops/VectorOpsSpecs/index.html#shifted_vector">shifted_vector</a>, <a href="../../ops/VectorOpsSpecs/index.html#ternary_vector">ternary_vector</a>, <a href="../../ops/VectorOpsSpecs/index.html#tested_raw">tested_raw</a>, <a href="../../ops/VectorOpsSpecs/index.html#unary_vector">unary_vector</a>}
@@ -4711,8 +4622,7 @@ use Rattle.wasmi_meter.specs.Limiter.{<a href="../../meter/LimiterSpecs/index.ht
 use Rattle.wasmi_store.specs.Buffer.{<a href="../../store/BufferSpecs/index.html#Owned">Owned</a>}
 use Rattle.wasmi_store.specs.Memory.{<a href="../../store/MemorySpecs/index.html#MemoryTypeValue">MemoryTypeValue</a>, <a href="../../store/MemorySpecs/index.html#MakesMemory">MakesMemory</a>, <a href="../../store/MemorySpecs/index.html#GrowsMemoryCharging">GrowsMemoryCharging</a>}
 use Rattle.wasmi_store.specs.Table.{<a href="../../store/TableSpecs/index.html#TableTypeValue">TableTypeValue</a>, <a href="../../store/TableSpecs/index.html#size_of">size_of</a>, <a href="../../store/TableSpecs/index.html#MakesTable">MakesTable</a>, <a href="../../store/TableSpecs/index.html#GrowsTableCharging">GrowsTableCharging</a>}
-use Rattle.wasmi_machine.specs.declared.calls.Call.{Call}
-use Rattle.wasmi_machine.specs.declared.calls.Reply.{Reply}
+use Rattle.wasmi_machine.specs.declared.{calls.Call.Call, calls.Reply.Reply}
 use Rattle.wasmi_machine.specs.State.{<a href="../../machine/StateSpecs/index.html#World">World</a>, <a href="../../machine/StateSpecs/index.html#Turn">Turn</a>, <a href="../../machine/StateSpecs/index.html#TurnOutcome">TurnOutcome</a>, <a href="../../machine/StateSpecs/index.html#outcome_of">outcome_of</a>, <a href="../../machine/StateSpecs/index.html#world">world</a>, <a href="../../machine/StateSpecs/index.html#State">State</a>, <a href="../../machine/StateSpecs/index.html#live_at">live_at</a>, <a href="../../machine/StateSpecs/index.html#with_memories">with_memories</a>, <a href="../../machine/StateSpecs/index.html#memory_part">memory_part</a>, <a href="../../machine/StateSpecs/index.html#with_tables">with_tables</a>, <a href="../../machine/StateSpecs/index.html#with_segments">with_segments</a>, <a href="../../machine/StateSpecs/index.html#with_data_segments">with_data_segments</a>, <a href="../../machine/StateSpecs/index.html#with_globals">with_globals</a>, <a href="../../machine/StateSpecs/index.html#with_registers">with_registers</a>, <a href="../../machine/StateSpecs/index.html#byte_count">byte_count</a>}
 use Rattle.wasmi_machine.specs.Effects.{<a href="../../machine/EffectsSpecs/index.html#reply_of">reply_of</a>, <a href="../../machine/EffectsSpecs/index.html#AddsItem">AddsItem</a>, <a href="../../machine/EffectsSpecs/index.html#Creates">Creates</a>, <a href="../../machine/EffectsSpecs/index.html#DropsAt">DropsAt</a>, <a href="../../machine/EffectsSpecs/index.html#ActsAt">ActsAt</a>, <a href="../../machine/EffectsSpecs/index.html#ChangesPart">ChangesPart</a>, <a href="../../machine/EffectsSpecs/index.html#OnlyReplies">OnlyReplies</a>, <a href="../../machine/EffectsSpecs/index.html#Changes">Changes</a>, <a href="../../machine/EffectsSpecs/index.html#Asks">Asks</a>, <a href="../../machine/EffectsSpecs/index.html#ActsMetered">ActsMetered</a>, <a href="../../machine/EffectsSpecs/index.html#ActsMeteredUnasked">ActsMeteredUnasked</a>, <a href="../../machine/EffectsSpecs/index.html#WritesRangeAt">WritesRangeAt</a>, <a href="../../machine/EffectsSpecs/index.html#item_bytes">item_bytes</a>}
 use Rattle.wasmi_ops.specs.LoadStoreOps.{<a href="../../ops/LoadStoreOpsSpecs/index.html#stored_bytes">stored_bytes</a>}
@@ -5008,9 +4918,8 @@ use Rattle.wasmi_typed.specs.declared.typed_ref.TypedRawRef.{TypedRawRef}
 use Rattle.wasmi_meter.specs.declared.error.TableError.{TableError}
 use Rattle.wasmi_store.specs.Segment.{<a href="../../store/SegmentSpecs/index.html#SegmentValue">SegmentValue</a>}
 use Rattle.wasmi_store.specs.Table.{<a href="../../store/TableSpecs/index.html#TableValue">TableValue</a>, <a href="../../store/TableSpecs/index.html#TableWrite">TableWrite</a>, <a href="../../store/TableSpecs/index.html#with_elements_reserved">with_elements_reserved</a>, <a href="../../store/TableSpecs/index.html#SetsTable">SetsTable</a>, <a href="../../store/TableSpecs/index.html#element_at">element_at</a>, <a href="../../store/TableSpecs/index.html#filling_of">filling_of</a>, <a href="../../store/TableSpecs/index.html#copy_of">copy_of</a>, <a href="../../store/TableSpecs/index.html#initialization_of">initialization_of</a>}
-use Rattle.wasmi_machine.specs.declared.calls.Reply.{Reply}
+use Rattle.wasmi_machine.specs.declared.{calls.Reply.Reply, slots.Slot.Slot}
 use Rattle.wasmi_machine.specs.declared.calls.Reply.TheVariants.{Done, Reference, Table, NoRoom, NoSuch}
-use Rattle.wasmi_machine.specs.declared.slots.Slot.{Slot}
 use Rattle.wasmi_machine.specs.Effects.{<a href="../../machine/EffectsSpecs/index.html#reply_of">reply_of</a>, <a href="../../machine/EffectsSpecs/index.html#ChangesAt">ChangesAt</a>, <a href="../../machine/EffectsSpecs/index.html#MeteredSlots">MeteredSlots</a>, <a href="../../machine/EffectsSpecs/index.html#WritesAt">WritesAt</a>, <a href="../../machine/EffectsSpecs/index.html#WritesFrom">WritesFrom</a>, <a href="../../machine/EffectsSpecs/index.html#item_bytes">item_bytes</a>}
 
 -- the element that is asked of a table, if the table is there
@@ -5065,8 +4974,7 @@ abbrev pub <b id="element_bytes">element_bytes</b> : ℕ → Reply → ℕ
 <pre><code>use Rattle.std.specs.Prelude.{◌≡◌, ◌⊎◌, ◌≤◌, ◌&lt;◌, ℕ, Option, Result, Ok, Err, List, [], length, slice_get, if◌then◌else◌, is_some}
 use Rattle.std.specs.Option.{option_map_or}
 use Rattle.wasmi_types.specs.declared.value.RefType.{RefType}
-use Rattle.wasmi_typed.specs.declared.typed.TypedRawVal.{TypedRawVal}
-use Rattle.wasmi_typed.specs.declared.global.GlobalError.{GlobalError}
+use Rattle.wasmi_typed.specs.declared.{typed.TypedRawVal.TypedRawVal, global.GlobalError.GlobalError}
 use Rattle.wasmi_typed.specs.Global.{<a href="../../typed/GlobalSpecs/index.html#GlobalInstance">GlobalInstance</a>, <a href="../../typed/GlobalSpecs/index.html#SetsGlobal">SetsGlobal</a>}
 use Rattle.wasmi_store.specs.declared.table.element.SegmentError.{SegmentError}
 use Rattle.wasmi_store.specs.declared.table.element.SegmentError.TheVariants.{TooManyItems, OutOfSystemMemory}
@@ -5078,7 +4986,7 @@ use Rattle.wasmi_meter.specs.declared.fuel.FuelError.TheVariants.{FuelMeteringDi
 use Rattle.wasmi_meter.specs.Meter.{<a href="../../meter/MeterSpecs/index.html#Meter">Meter</a>, <a href="../../meter/MeterSpecs/index.html#meter_set">meter_set</a>}
 use Rattle.wasmi_machine.specs.State.{<a href="../../machine/StateSpecs/index.html#State">State</a>}
 
--- the segment of these items, unless there are too many, or memory is refused for some
+-- a call makes the segment of these items, unless there are too many, or memory is refused for some
 abbrev pub <b id="IsSegmentOf">IsSegmentOf</b> : RefType → List ℕ → Result <a href="../../store/SegmentSpecs/index.html#SegmentValue">SegmentValue</a> SegmentError → Type 0
 <a href="../../machine/ValueEffectsSpecs/index.html#IsSegmentOf">IsSegmentOf</a> ty items (Ok segment) = (length items ≤ <a href="../../store/SegmentSpecs/index.html#most_items">most_items</a>) × (segment ≡ record { ty = ty; items = items })
 <a href="../../machine/ValueEffectsSpecs/index.html#IsSegmentOf">IsSegmentOf</a> ty items (Err TooManyItems) = <a href="../../store/SegmentSpecs/index.html#most_items">most_items</a> &lt; length items
@@ -5132,27 +5040,23 @@ pub mod laws {
 use Rattle.wasmi_raw.specs.declared.raw.RawVal.{RawVal}
 use Rattle.wasmi_raw.specs.RawVal.{<a href="../../raw/RawValSpecs/index.html#raw_of">raw_of</a>}
 use Rattle.wasmi_access.specs.LoadStore.{<a href="../../accesses/LoadStoreSpecs/index.html#IsSameOutside">IsSameOutside</a>}
-use Rattle.wasmi_ops.specs.declared.load_store.LoadOp.{LoadOp}
-use Rattle.wasmi_ops.specs.declared.load_store.StoreOp.{StoreOp}
+use Rattle.wasmi_ops.specs.declared.{load_store.LoadOp.LoadOp, load_store.StoreOp.StoreOp}
 use Rattle.wasmi_typed.specs.Global.{<a href="../../typed/GlobalSpecs/index.html#GlobalInstance">GlobalInstance</a>}
 use Rattle.wasmi_typed.specs.declared.global.Mutability.TheVariants.{Const}
 use Rattle.wasmi_meter.specs.Limiter.{<a href="../../meter/LimiterSpecs/index.html#Rules">Rules</a>}
 use Rattle.wasmi_store.specs.Memory.{<a href="../../store/MemorySpecs/index.html#MemoryValue">MemoryValue</a>, <a href="../../store/MemorySpecs/index.html#GrowsMemory">GrowsMemory</a>, <a href="../../store/MemorySpecs/index.html#WritesMemory">WritesMemory</a>}
 use Rattle.wasmi_store.specs.Segment.{<a href="../../store/SegmentSpecs/index.html#SegmentValue">SegmentValue</a>}
 use Rattle.wasmi_store.specs.Table.{<a href="../../store/TableSpecs/index.html#TableValue">TableValue</a>, <a href="../../store/TableSpecs/index.html#GrowsTable">GrowsTable</a>}
-use Rattle.wasmi_machine.specs.declared.calls.Call.{Call}
-use Rattle.wasmi_machine.specs.declared.slots.Slot.{Slot}
+use Rattle.wasmi_machine.specs.declared.{calls.Call.Call, slots.Slot.Slot, calls.Reply.Reply}
 use Rattle.wasmi_machine.specs.declared.slots.Slot.TheVariants.{Live, Gone}
-use Rattle.wasmi_machine.specs.declared.calls.Reply.{Reply}
 use Rattle.wasmi_machine.specs.declared.calls.Reply.TheVariants.{Done, Value, Bytes, Memory, Number, Table}
 use Rattle.wasmi_machine.specs.State.{<a href="../../machine/StateSpecs/index.html#State">State</a>, <a href="../../machine/StateSpecs/index.html#live_at">live_at</a>, <a href="../../machine/StateSpecs/index.html#with_memories">with_memories</a>, <a href="../../machine/StateSpecs/index.html#with_tables">with_tables</a>, <a href="../../machine/StateSpecs/index.html#World">World</a>, <a href="../../machine/StateSpecs/index.html#Turn">Turn</a>, <a href="../../machine/StateSpecs/index.html#world">world</a>}
 use Rattle.wasmi_machine.specs.Steps.{<a href="../../machine/StepsSpecs/index.html#Step">Step</a>, <a href="../../machine/StepsSpecs/index.html#RepliesWith">RepliesWith</a>, <a href="../../machine/StepsSpecs/index.html#Run">Run</a>}
 use Rattle.wasmi_types.specs.Access.{<a href="../../types/AccessSpecs/index.html#at">at</a>}
 use Rattle.wasmi_typed.specs.declared.typed_ref.TypedRawRef.{TypedRawRef}
 use Rattle.wasmi_meter.specs.Meter.{<a href="../../meter/MeterSpecs/index.html#Meter">Meter</a>}
-use Rattle.wasmi_meter.specs.declared.error.MemoryError.{MemoryError}
+use Rattle.wasmi_meter.specs.declared.{error.MemoryError.MemoryError, error.TableError.TableError}
 use Rattle.wasmi_meter.specs.declared.error.MemoryError.TheVariants.{OutOfBoundsAccess}
-use Rattle.wasmi_meter.specs.declared.error.TableError.{TableError}
 use Rattle.wasmi_store.specs.Growth.{<a href="../../store/GrowthSpecs/index.html#metered_value">metered_value</a>}
 use Rattle.wasmi_machine.specs.declared.calls.Call.TheVariants.{GrowMemory, GrowTable, Read, Write}
 use Rattle.wasmi_machine.specs.Effects.{<a href="../../machine/EffectsSpecs/index.html#reply_of">reply_of</a>}
@@ -5295,8 +5199,7 @@ pub record <b id="IsIndependent">IsIndependent</b> (first second : Call) : Type 
 abbrev pub <b id="StaysAt">StaysAt</b> : <a href="../../laws/PlacesSpecs/index.html#Location">Location</a> → <a href="../../machine/StateSpecs/index.html#State">State</a> → <a href="../../machine/StateSpecs/index.html#State">State</a> → Type 0
 <a href="../../laws/PlacesSpecs/index.html#StaysAt">StaysAt</a> location s s&#x27; = (x : <a href="../../laws/PlacesSpecs/index.html#Content">Content</a> location) → <a href="../../laws/PlacesSpecs/index.html#content_at">content_at</a> location s ≡ Some x → <a href="../../laws/PlacesSpecs/index.html#content_at">content_at</a> location s&#x27; ≡ Some x
 
--- what may become of a slot: a live value stays of its type or is dropped, and one that was dropped stays so, with its
--- size
+-- what may become of a slot: a live value stays of its type or is dropped, and a dropped one stays, with its size
 abbrev pub <b id="IsLaterSlot">IsLaterSlot</b> : {X T : Type 0} → (X → T) → Slot X → Slot X → Type 0
 <a href="../../laws/PlacesSpecs/index.html#IsLaterSlot">IsLaterSlot</a> type (Live x) (Live x&#x27;) = type x&#x27; ≡ type x
 <a href="../../laws/PlacesSpecs/index.html#IsLaterSlot">IsLaterSlot</a> type (Live x) (Gone size) = Unit {0}
@@ -5312,7 +5215,7 @@ abbrev pub <b id="IsLater">IsLater</b> : (location : <a href="../../laws/PlacesS
 <a href="../../laws/PlacesSpecs/index.html#IsLater">IsLater</a> (<a href="../../laws/PlacesSpecs/index.html#GlobalAt">GlobalAt</a> k) x x&#x27; = (x&#x27;.ty ≡ x.ty) × (x.ty.mutability ≡ Const → x&#x27; ≡ x)
 <a href="../../laws/PlacesSpecs/index.html#IsLater">IsLater</a> (<a href="../../laws/PlacesSpecs/index.html#RegisterAt">RegisterAt</a> k) x x&#x27; = Unit {0}
 
--- a slot isn&#x27;t dropped
+-- the slot at an index isn&#x27;t dropped
 abbrev pub <b id="IsLiveSlot">IsLiveSlot</b> : {X : Type 0} → Slot X → Type 0
 <a href="../../laws/PlacesSpecs/index.html#IsLiveSlot">IsLiveSlot</a> (Live x) = Unit {0}
 <a href="../../laws/PlacesSpecs/index.html#IsLiveSlot">IsLiveSlot</a> (Gone size) = ⊥
@@ -5395,8 +5298,7 @@ module _ {S : Type 0} (rules : <a href="../../meter/LimiterSpecs/index.html#Rule
       → All (<a href="../../laws/PlacesSpecs/index.html#DropsNot">DropsNot</a> location) (map Turn.call turns) → <a href="../../laws/PlacesSpecs/index.html#HasAt">HasAt</a> location w.state (<a href="../../laws/PlacesSpecs/index.html#IsLive">IsLive</a> location)
       → <a href="../../laws/PlacesSpecs/index.html#HasAt">HasAt</a> location w&#x27;.state (<a href="../../laws/PlacesSpecs/index.html#IsLive">IsLive</a> location)
 
-  -- an accepted store to a memory is read back by the load of the same size, after whatever turns whose calls don&#x27;t
-  -- change that memory
+  -- an accepted store is read back by the load of its size, after any turns whose calls don&#x27;t change its memory
   abbrev pub <b id="StoresAreReadBack">StoresAreReadBack</b> : Type 0
   <a href="../../laws/PlacesSpecs/index.html#StoresAreReadBack">StoresAreReadBack</a> = (it : <a href="../../laws/PlacesSpecs/index.html#NumberStore">NumberStore</a>) (t u v w : <a href="../../machine/StateSpecs/index.html#World">World</a> S) (turns : List <a href="../../machine/StateSpecs/index.html#Turn">Turn</a>) (reply : Reply)
       → <a href="../../machine/StepsSpecs/index.html#RepliesWith">RepliesWith</a> rules (<a href="../../laws/PlacesSpecs/index.html#store_call">store_call</a> it) t Done u → <a href="../../machine/StepsSpecs/index.html#Run">Run</a> rules u turns v
@@ -5465,22 +5367,19 @@ use Rattle.wasmi_store.specs.Buffer.{<a href="../../store/BufferSpecs/index.html
 use Rattle.wasmi_store.specs.Memory.{<a href="../../store/MemorySpecs/index.html#MemoryValue">MemoryValue</a>}
 use Rattle.wasmi_store.specs.Table.{<a href="../../store/TableSpecs/index.html#TableValue">TableValue</a>, <a href="../../store/TableSpecs/index.html#size_of">size_of</a>}
 use Rattle.wasmi_meter.specs.Limiter.{<a href="../../meter/LimiterSpecs/index.html#Rules">Rules</a>}
-use Rattle.wasmi_machine.specs.declared.calls.Call.{Call}
+use Rattle.wasmi_machine.specs.declared.{calls.Call.Call, calls.Reply.Reply, slots.Slot.Slot, slots.SlotCounts.SlotCounts}
 use Rattle.wasmi_machine.specs.declared.calls.Call.TheVariants.{NewMemory, NewLentMemory, GrowMemory, Read, NewTable, GrowTable, NewSegment, NewData, NewGlobal}
-use Rattle.wasmi_machine.specs.declared.calls.Reply.{Reply}
-use Rattle.wasmi_machine.specs.declared.slots.Slot.{Slot}
-use Rattle.wasmi_machine.specs.declared.slots.SlotCounts.{SlotCounts}
 use Rattle.wasmi_machine.specs.State.{<a href="../../machine/StateSpecs/index.html#State">State</a>, <a href="../../machine/StateSpecs/index.html#live_at">live_at</a>, <a href="../../machine/StateSpecs/index.html#with_reserved">with_reserved</a>, <a href="../../machine/StateSpecs/index.html#World">World</a>, <a href="../../machine/StateSpecs/index.html#Turn">Turn</a>}
 use Rattle.wasmi_machine.specs.Effects.{<a href="../../machine/EffectsSpecs/index.html#OnLive">OnLive</a>}
 use Rattle.wasmi_machine.specs.Determinism.{<a href="../../machine/DeterminismSpecs/index.html#IsNotOutOfMemory">IsNotOutOfMemory</a>}
 use Rattle.wasmi_machine.specs.Steps.{<a href="../../machine/StepsSpecs/index.html#Step">Step</a>, <a href="../../machine/StepsSpecs/index.html#IsRunOf">IsRunOf</a>}
 
--- bytes grow in what is left of a lent region
+-- room is reserved: bytes grow in what is left of a lent region
 abbrev pub <b id="IsLentRoom">IsLentRoom</b> : <a href="../../store/BufferSpecs/index.html#Room">Room</a> → Type 0
 <a href="../../laws/ReservedSpecs/index.html#IsLentRoom">IsLentRoom</a> <a href="../../store/BufferSpecs/index.html#Owned">Owned</a> = ⊥
 <a href="../../laws/ReservedSpecs/index.html#IsLentRoom">IsLentRoom</a> (<a href="../../store/BufferSpecs/index.html#Lent">Lent</a> rest) = Unit {0}
 
--- a memory lies in a lent region
+-- a memory lies in a lent region, which is reserved for it
 abbrev pub <b id="IsLent">IsLent</b> : <a href="../../store/MemorySpecs/index.html#MemoryValue">MemoryValue</a> → Type 0
 <a href="../../laws/ReservedSpecs/index.html#IsLent">IsLent</a> x = <a href="../../laws/ReservedSpecs/index.html#IsLentRoom">IsLentRoom</a> x.room
 
@@ -5556,8 +5455,7 @@ abbrev pub <b id="NeedsOnlySlot">NeedsOnlySlot</b> : <a href="../../machine/Stat
 <a href="../../laws/ReservedSpecs/index.html#NeedsOnlySlot">NeedsOnlySlot</a> s (NewData bytes) = bytes.items ≡ []
 <a href="../../laws/ReservedSpecs/index.html#NeedsOnlySlot">NeedsOnlySlot</a> s call = Unit {0}
 
--- whether a call takes a slot of a kind: it makes a memory in the spare region, an element segment, a data segment or a
--- global
+-- whether a call takes a slot of a kind: it makes a memory in the spare region, a segment of either kind or a global
 abbrev pub <b id="takes_slot">takes_slot</b> : <a href="../../laws/ReservedSpecs/index.html#SlotKind">SlotKind</a> → Call → Bool
 <a href="../../laws/ReservedSpecs/index.html#takes_slot">takes_slot</a> <a href="../../laws/ReservedSpecs/index.html#Memories">Memories</a> (NewLentMemory ty) = true
 <a href="../../laws/ReservedSpecs/index.html#takes_slot">takes_slot</a> <a href="../../laws/ReservedSpecs/index.html#Segments">Segments</a> (NewSegment ty items) = true
@@ -5601,11 +5499,9 @@ module _ {S : Type 0} (rules : <a href="../../meter/LimiterSpecs/index.html#Rule
     #[doc = r####"The calls and replies of all runs of a tenant of a pool, and tenants that have reserved what their calls need: no reply to them says out of memory.
 
 <pre><code>use Rattle.std.specs.Prelude.{◌≡◌, ◌++◌, ◌∷◌, ℕ, List, [], Some, All, nat_eq, if◌then◌else◌}
-use Rattle.wasmi_machine.specs.declared.calls.Call.{Call}
-use Rattle.wasmi_machine.specs.declared.calls.Reply.{Reply}
+use Rattle.wasmi_machine.specs.declared.{calls.Call.Call, calls.Reply.Reply, slots.SlotCounts.SlotCounts}
 use Rattle.wasmi_machine.specs.Determinism.{<a href="../../machine/DeterminismSpecs/index.html#IsNotOutOfMemory">IsNotOutOfMemory</a>}
 use Rattle.wasmi_machine.specs.State.{<a href="../../machine/StateSpecs/index.html#State">State</a>}
-use Rattle.wasmi_machine.specs.declared.slots.SlotCounts.{SlotCounts}
 use Rattle.wasmi_laws.specs.Reserved.{<a href="../../laws/ReservedSpecs/index.html#FitsSlots">FitsSlots</a>, <a href="../../laws/ReservedSpecs/index.html#IsReservedFor">IsReservedFor</a>}
 use Rattle.wasmi_budget.specs.Laws.{<a href="../../budget/LawsSpecs/index.html#PoolTurn">PoolTurn</a>, <a href="../../budget/LawsSpecs/index.html#Ran">Ran</a>, <a href="../../budget/LawsSpecs/index.html#Reserved">Reserved</a>, <a href="../../budget/LawsSpecs/index.html#PoolRun">PoolRun</a>}
 use Rattle.wasmi_budget.specs.Pool.{<a href="../../budget/PoolSpecs/index.html#PoolValue">PoolValue</a>, <a href="../../budget/PoolSpecs/index.html#machine_of">machine_of</a>}
@@ -5644,12 +5540,10 @@ abbrev pub <b id="SlotsSufficeForTenants">SlotsSufficeForTenants</b> : Type 0
     #[doc = r####"Laws over turns and runs: runs that are cut in two, sizes and totals that never shrink, plain refusals that change nothing, the caps of a quota, what a run keeps of its meter, and the same run with more fuel.
 
 <pre><code>use Rattle.std.specs.Prelude.{◌≡◌, ◌≤◌, ◌++◌, ℕ, List, length, take, drop, map, Option, Some, slice_get, All, ◌+◌, is_some}
-use Rattle.wasmi_meter.specs.declared.limiter.Kind.{Kind}
+use Rattle.wasmi_meter.specs.declared.{limiter.Kind.Kind, quota.Quota.Quota, error.MemoryError.MemoryError, error.TableError.TableError}
 use Rattle.wasmi_meter.specs.Limiter.{<a href="../../meter/LimiterSpecs/index.html#Rules">Rules</a>, <a href="../../meter/LimiterSpecs/index.html#optional_rules">optional_rules</a>}
-use Rattle.wasmi_meter.specs.declared.quota.Quota.{Quota}
 use Rattle.wasmi_meter.specs.Capped.{<a href="../../meter/CappedSpecs/index.html#IsWithinCaps">IsWithinCaps</a>, <a href="../../meter/CappedSpecs/index.html#cap_of">cap_of</a>, <a href="../../meter/CappedSpecs/index.html#holdings">holdings</a>, <a href="../../meter/CappedSpecs/index.html#quota_rules">quota_rules</a>}
-use Rattle.wasmi_machine.specs.declared.calls.Call.{Call}
-use Rattle.wasmi_machine.specs.declared.calls.Reply.{Reply}
+use Rattle.wasmi_machine.specs.declared.{calls.Call.Call, calls.Reply.Reply}
 use Rattle.wasmi_machine.specs.State.{<a href="../../machine/StateSpecs/index.html#State">State</a>, <a href="../../machine/StateSpecs/index.html#World">World</a>, <a href="../../machine/StateSpecs/index.html#Turn">Turn</a>, <a href="../../machine/StateSpecs/index.html#world">world</a>, <a href="../../machine/StateSpecs/index.html#IsRefusal">IsRefusal</a>, <a href="../../machine/StateSpecs/index.html#sizes">sizes</a>, <a href="../../machine/StateSpecs/index.html#total">total</a>, <a href="../../machine/StateSpecs/index.html#HoldsTotals">HoldsTotals</a>}
 use Rattle.wasmi_machine.specs.Steps.{<a href="../../machine/StepsSpecs/index.html#Step">Step</a>, <a href="../../machine/StepsSpecs/index.html#Sequence">Sequence</a>, <a href="../../machine/StepsSpecs/index.html#Run">Run</a>, <a href="../../machine/StepsSpecs/index.html#IsRunOf">IsRunOf</a>}
 use Rattle.wasmi_machine.specs.Exchange.{<a href="../../machine/ExchangeSpecs/index.html#Nowhere">Nowhere</a>, <a href="../../machine/ExchangeSpecs/index.html#place_of">place_of</a>}
@@ -5659,9 +5553,7 @@ use Rattle.wasmi_machine.specs.declared.calls.Call.TheVariants.{SetFuel, GetFuel
 use Rattle.wasmi_machine.specs.declared.calls.Reply.TheVariants.{Memory, Table}
 use Rattle.wasmi_machine.specs.Account.{<a href="../../machine/AccountSpecs/index.html#SetsNoFuel">SetsNoFuel</a>}
 use Rattle.wasmi_machine.specs.Determinism.{<a href="../../machine/DeterminismSpecs/index.html#AcceptsNotices">AcceptsNotices</a>}
-use Rattle.wasmi_meter.specs.declared.error.MemoryError.{MemoryError}
 use Rattle.wasmi_meter.specs.declared.error.MemoryError.TheVariants as memory
-use Rattle.wasmi_meter.specs.declared.error.TableError.{TableError}
 use Rattle.wasmi_meter.specs.declared.error.TableError.TheVariants as table
 use Rattle.wasmi_machine.specs.declared.calls.Reply.TheVariants as reply
 
@@ -5734,9 +5626,8 @@ module _ {S : Type 0} (rules : <a href="../../meter/LimiterSpecs/index.html#Rule
 
   -- every size, of a memory in bytes or of a table in elements, stays at its index in a run and doesn&#x27;t shrink
   abbrev pub <b id="SizesNeverShrink">SizesNeverShrink</b> : Type 0
-  <a href="../../laws/RunsSpecs/index.html#SizesNeverShrink">SizesNeverShrink</a> = (w : <a href="../../machine/StateSpecs/index.html#World">World</a> S) (turns : List <a href="../../machine/StateSpecs/index.html#Turn">Turn</a>) (w&#x27; : <a href="../../machine/StateSpecs/index.html#World">World</a> S) → <a href="../../machine/StepsSpecs/index.html#Run">Run</a> rules w turns w&#x27;
-      → (kind : Kind) (k n : ℕ) → slice_get (<a href="../../machine/StateSpecs/index.html#sizes">sizes</a> w.state kind) k ≡ Some n
-      → (n&#x27; : ℕ) × (slice_get (<a href="../../machine/StateSpecs/index.html#sizes">sizes</a> w&#x27;.state kind) k ≡ Some n&#x27;) × (n ≤ n&#x27;)
+  <a href="../../laws/RunsSpecs/index.html#SizesNeverShrink">SizesNeverShrink</a> = (w : <a href="../../machine/StateSpecs/index.html#World">World</a> S) (turns : List <a href="../../machine/StateSpecs/index.html#Turn">Turn</a>) (w&#x27; : <a href="../../machine/StateSpecs/index.html#World">World</a> S) → <a href="../../machine/StepsSpecs/index.html#Run">Run</a> rules w turns w&#x27; → (kind : Kind) (k n : ℕ)
+      → slice_get (<a href="../../machine/StateSpecs/index.html#sizes">sizes</a> w.state kind) k ≡ Some n → (n&#x27; : ℕ) × (slice_get (<a href="../../machine/StateSpecs/index.html#sizes">sizes</a> w&#x27;.state kind) k ≡ Some n&#x27;) × (n ≤ n&#x27;)
 
   -- the totals of a machine don&#x27;t shrink in a run
   abbrev pub <b id="TotalsNeverShrink">TotalsNeverShrink</b> : Type 0
@@ -5748,8 +5639,7 @@ module _ {S : Type 0} (rules : <a href="../../meter/LimiterSpecs/index.html#Rule
   <a href="../../laws/RunsSpecs/index.html#PlainRefusalsChangeNothing">PlainRefusalsChangeNothing</a> =
       (w : <a href="../../machine/StateSpecs/index.html#World">World</a> S) (turn : <a href="../../machine/StateSpecs/index.html#Turn">Turn</a>) (w&#x27; : <a href="../../machine/StateSpecs/index.html#World">World</a> S) → <a href="../../machine/StepsSpecs/index.html#Step">Step</a> rules w turn w&#x27; → <a href="../../laws/RunsSpecs/index.html#IsPlainRefusal">IsPlainRefusal</a> turn.reply → w&#x27; ≡ w
 
-  -- a refused turn of a call that makes nothing and lets nothing grow leaves the machine, its meter and the limiter as
-  -- they were
+  -- a refused turn of a call that makes nothing and grows nothing leaves the machine, its meter and the limiter
   abbrev pub <b id="OtherRefusalsChangeNothing">OtherRefusalsChangeNothing</b> : Type 0
   <a href="../../laws/RunsSpecs/index.html#OtherRefusalsChangeNothing">OtherRefusalsChangeNothing</a> =
       (w : <a href="../../machine/StateSpecs/index.html#World">World</a> S) (turn : <a href="../../machine/StateSpecs/index.html#Turn">Turn</a>) (w&#x27; : <a href="../../machine/StateSpecs/index.html#World">World</a> S) → <a href="../../machine/StepsSpecs/index.html#Step">Step</a> rules w turn w&#x27; → <a href="../../machine/ExchangeSpecs/index.html#place_of">place_of</a> turn.call ≡ <a href="../../machine/ExchangeSpecs/index.html#Nowhere">Nowhere</a>
@@ -5764,8 +5654,7 @@ module _ {S : Type 0} (rules : <a href="../../meter/LimiterSpecs/index.html#Rule
 abbrev pub <b id="IsWithinCapsOf">IsWithinCapsOf</b> : Quota → <a href="../../machine/StateSpecs/index.html#State">State</a> → Type 0
 <a href="../../laws/RunsSpecs/index.html#IsWithinCapsOf">IsWithinCapsOf</a> quota s = (kind : Kind) → <a href="../../machine/StateSpecs/index.html#total">total</a> s kind ≤ <a href="../../meter/CappedSpecs/index.html#cap_of">cap_of</a> quota kind
 
--- under a quota that holds what a machine has, and no more than its caps, the machine is within these caps after each
--- turn of a run
+-- under a quota that holds what a machine has, within its caps, the machine is within them after each turn of a run
 abbrev pub <b id="CapsHoldInRuns">CapsHoldInRuns</b> : Type 0
 <a href="../../laws/RunsSpecs/index.html#CapsHoldInRuns">CapsHoldInRuns</a> = (s : <a href="../../machine/StateSpecs/index.html#State">State</a>) (quota : Quota) → <a href="../../machine/StateSpecs/index.html#HoldsTotals">HoldsTotals</a> (<a href="../../meter/CappedSpecs/index.html#holdings">holdings</a> quota) s → <a href="../../meter/CappedSpecs/index.html#IsWithinCaps">IsWithinCaps</a> quota
     → (turns : List <a href="../../machine/StateSpecs/index.html#Turn">Turn</a>) (w&#x27; : <a href="../../machine/StateSpecs/index.html#World">World</a> (Option Quota)) → <a href="../../machine/StepsSpecs/index.html#Run">Run</a> (<a href="../../meter/LimiterSpecs/index.html#optional_rules">optional_rules</a> <a href="../../meter/CappedSpecs/index.html#quota_rules">quota_rules</a>) (<a href="../../machine/StateSpecs/index.html#world">world</a> s (Some quota)) turns w&#x27;
@@ -5824,11 +5713,9 @@ pub mod budget {
     #[doc = r####"What holds of all calls on a pool, one after another, and of all runs of a tenant's machine.
 
 <pre><code>use Rattle.std.specs.Prelude.{◌≡◌, ◌≢◌, ◌+◌, ℕ, List, [], ◌∷◌, nat_eq, if◌then◌else◌, MatchBool, Some, None, All}
-use Rattle.wasmi_machine.specs.declared.calls.Call.{Call}
-use Rattle.wasmi_machine.specs.declared.calls.Reply.{Reply}
-use Rattle.wasmi_machine.specs.declared.slots.SlotCounts.{SlotCounts}
-use Rattle.wasmi_machine.specs.State.{<a href="../../machine/StateSpecs/index.html#State">State</a>, <a href="../../machine/StateSpecs/index.html#Turn">Turn</a>, <a href="../../machine/StateSpecs/index.html#total">total</a>}
-use Rattle.wasmi_budget.specs.Pool.{<a href="../../budget/PoolSpecs/index.html#PoolValue">PoolValue</a>, <a href="../../budget/PoolSpecs/index.html#AddsTenant">AddsTenant</a>, <a href="../../budget/PoolSpecs/index.html#RunsTenant">RunsTenant</a>, <a href="../../budget/PoolSpecs/index.html#RemovesTenant">RemovesTenant</a>, <a href="../../budget/PoolSpecs/index.html#ReservesForTenant">ReservesForTenant</a>, <a href="../../budget/PoolSpecs/index.html#ReservesElementsForTenant">ReservesElementsForTenant</a>, <a href="../../budget/PoolSpecs/index.html#machine_of">machine_of</a>, <a href="../../budget/PoolSpecs/index.html#tenant_rules">tenant_rules</a>, <a href="../../budget/PoolSpecs/index.html#total_of">total_of</a>, <a href="../../budget/PoolSpecs/index.html#without_others">without_others</a>, <a href="../../budget/PoolSpecs/index.html#RunsTenantBy">RunsTenantBy</a>, <a href="../../budget/PoolSpecs/index.html#IsWithinCaps">IsWithinCaps</a>}
+use Rattle.wasmi_machine.specs.declared.{calls.Call.Call, calls.Reply.Reply, slots.SlotCounts.SlotCounts}
+use Rattle.wasmi_machine.specs.State.{<a href="../../machine/StateSpecs/index.html#State">State</a>, <a href="../../machine/StateSpecs/index.html#Turn">Turn</a>, <a href="../../machine/StateSpecs/index.html#total">total</a>, <a href="../../machine/StateSpecs/index.html#world">world</a>}
+use Rattle.wasmi_budget.specs.Pool.{<a href="../../budget/PoolSpecs/index.html#PoolValue">PoolValue</a>, <a href="../../budget/PoolSpecs/index.html#AddsTenant">AddsTenant</a>, <a href="../../budget/PoolSpecs/index.html#RunsTenant">RunsTenant</a>, <a href="../../budget/PoolSpecs/index.html#RemovesTenant">RemovesTenant</a>, <a href="../../budget/PoolSpecs/index.html#ReservesForTenant">ReservesForTenant</a>, <a href="../../budget/PoolSpecs/index.html#ReservesElementsForTenant">ReservesElementsForTenant</a>, <a href="../../budget/PoolSpecs/index.html#machine_of">machine_of</a>, <a href="../../budget/PoolSpecs/index.html#pool_of">pool_of</a>, <a href="../../budget/PoolSpecs/index.html#tenant_rules">tenant_rules</a>, <a href="../../budget/PoolSpecs/index.html#total_of">total_of</a>, <a href="../../budget/PoolSpecs/index.html#without_others">without_others</a>, <a href="../../budget/PoolSpecs/index.html#RunsTenantBy">RunsTenantBy</a>, <a href="../../budget/PoolSpecs/index.html#IsWithinCaps">IsWithinCaps</a>}
 use Rattle.wasmi_meter.specs.declared.limiter.Kind.{Kind}
 use Rattle.wasmi_meter.specs.Limiter.{<a href="../../meter/LimiterSpecs/index.html#optional_rules">optional_rules</a>}
 use Rattle.wasmi_machine.specs.Determinism.{<a href="../../machine/DeterminismSpecs/index.html#permitting">permitting</a>, <a href="../../machine/DeterminismSpecs/index.html#TellsNoDenial">TellsNoDenial</a>}
@@ -5893,22 +5780,19 @@ abbrev pub <b id="CapsHold">CapsHold</b> : Type 0
 <a href="../../budget/LawsSpecs/index.html#CapsHold">CapsHold</a> = (pool : <a href="../../budget/PoolSpecs/index.html#PoolValue">PoolValue</a>) → <a href="../../budget/PoolSpecs/index.html#IsWithinCaps">IsWithinCaps</a> pool → (turns : List <a href="../../budget/LawsSpecs/index.html#PoolTurn">PoolTurn</a>) (pool&#x27; : <a href="../../budget/PoolSpecs/index.html#PoolValue">PoolValue</a>)
     → <a href="../../budget/LawsSpecs/index.html#PoolRun">PoolRun</a> pool turns pool&#x27; → (pool&#x27;.caps ≡ pool.caps) × <a href="../../budget/PoolSpecs/index.html#IsWithinCaps">IsWithinCaps</a> pool&#x27;
 
--- a run in which each question is permitted is one, with the same turns and the same machine, where the others hold
--- nothing
+-- a run in which each question is permitted is one, with the same turns and machine, where the others hold nothing
 abbrev pub <b id="OthersDontShow">OthersDontShow</b> : Type 0
 <a href="../../budget/LawsSpecs/index.html#OthersDontShow">OthersDontShow</a> = (s s&#x27; : <a href="../../machine/StateSpecs/index.html#State">State</a>) (tenant tenant&#x27; : Tenant) (turns : List <a href="../../machine/StateSpecs/index.html#Turn">Turn</a>)
-    → <a href="../../machine/StepsSpecs/index.html#Run">Run</a> (<a href="../../machine/DeterminismSpecs/index.html#permitting">permitting</a> (<a href="../../meter/LimiterSpecs/index.html#optional_rules">optional_rules</a> <a href="../../budget/PoolSpecs/index.html#tenant_rules">tenant_rules</a>)) (record { state = s; limiter = Some tenant }) turns
-    (record { state = s&#x27;; limiter = Some tenant&#x27; })
-    → <a href="../../machine/StepsSpecs/index.html#Run">Run</a> (<a href="../../meter/LimiterSpecs/index.html#optional_rules">optional_rules</a> <a href="../../budget/PoolSpecs/index.html#tenant_rules">tenant_rules</a>) (record { state = s; limiter = Some (<a href="../../budget/PoolSpecs/index.html#without_others">without_others</a> tenant) }) turns
-    (record { state = s&#x27;; limiter = Some (<a href="../../budget/PoolSpecs/index.html#without_others">without_others</a> tenant&#x27;) })
+    → <a href="../../machine/StepsSpecs/index.html#Run">Run</a> (<a href="../../machine/DeterminismSpecs/index.html#permitting">permitting</a> (<a href="../../meter/LimiterSpecs/index.html#optional_rules">optional_rules</a> <a href="../../budget/PoolSpecs/index.html#tenant_rules">tenant_rules</a>)) (<a href="../../machine/StateSpecs/index.html#world">world</a> s (Some tenant)) turns (<a href="../../machine/StateSpecs/index.html#world">world</a> s&#x27; (Some tenant&#x27;))
+    → <a href="../../machine/StepsSpecs/index.html#Run">Run</a> (<a href="../../meter/LimiterSpecs/index.html#optional_rules">optional_rules</a> <a href="../../budget/PoolSpecs/index.html#tenant_rules">tenant_rules</a>) (<a href="../../machine/StateSpecs/index.html#world">world</a> s (Some (<a href="../../budget/PoolSpecs/index.html#without_others">without_others</a> tenant))) turns
+    (<a href="../../machine/StateSpecs/index.html#world">world</a> s&#x27; (Some (<a href="../../budget/PoolSpecs/index.html#without_others">without_others</a> tenant&#x27;)))
 
 -- a tenant that is never denied gets, run after run, what it gets alone under the same caps
 abbrev pub <b id="RunsAsAlone">RunsAsAlone</b> : Type 0
 <a href="../../budget/LawsSpecs/index.html#RunsAsAlone">RunsAsAlone</a> = (pool : <a href="../../budget/PoolSpecs/index.html#PoolValue">PoolValue</a>) (index : ℕ) (s : <a href="../../machine/StateSpecs/index.html#State">State</a>) → <a href="../../budget/PoolSpecs/index.html#machine_of">machine_of</a> pool index ≡ Some s
     → (turns : List <a href="../../budget/LawsSpecs/index.html#PoolTurn">PoolTurn</a>) (pool&#x27; : <a href="../../budget/PoolSpecs/index.html#PoolValue">PoolValue</a>) → <a href="../../budget/LawsSpecs/index.html#PermittingRun">PermittingRun</a> index pool turns pool&#x27;
     → (s&#x27; : <a href="../../machine/StateSpecs/index.html#State">State</a>) × (<a href="../../budget/PoolSpecs/index.html#machine_of">machine_of</a> pool&#x27; index ≡ Some s&#x27;)
-    × <a href="../../budget/LawsSpecs/index.html#PoolRun">PoolRun</a> (record { caps = pool.caps; machines = Some s ∷ [] }) (<a href="../../budget/LawsSpecs/index.html#own_turns">own_turns</a> index turns)
-    (record { caps = pool.caps; machines = Some s&#x27; ∷ [] })
+    × <a href="../../budget/LawsSpecs/index.html#PoolRun">PoolRun</a> (<a href="../../budget/PoolSpecs/index.html#pool_of">pool_of</a> pool.caps (Some s ∷ [])) (<a href="../../budget/LawsSpecs/index.html#own_turns">own_turns</a> index turns) (<a href="../../budget/PoolSpecs/index.html#pool_of">pool_of</a> pool.caps (Some s&#x27; ∷ []))
 
 -- an accepted run of a tenant in which no reply reports a denial is one in which each question was permitted
 abbrev pub <b id="RepliesPermit">RepliesPermit</b> : Type 0
@@ -5931,28 +5815,20 @@ abbrev pub <b id="RemovedStayRemoved">RemovedStayRemoved</b> : Type 0
     pub mod LawsSpecs {}
     #[doc = r####"A pool of tenants: a tenant's rules, what the machines hold together, how the machine at an index becomes another by a run, a reservation or a removal, which calls ask no limiter, and what the pool's errors print.
 
-<pre><code>use Rattle.wasmi_meter.specs.declared.quota.Holdings.{Holdings}
+<pre><code>use Rattle.wasmi_meter.specs.declared.{quota.Holdings.Holdings, limiter.Kind.Kind, quota.Amounts.Amounts}
 use Rattle.wasmi_meter.specs.Capped.{<a href="../../meter/CappedSpecs/index.html#amount_of">amount_of</a>, <a href="../../meter/CappedSpecs/index.html#nothing">nothing</a>, <a href="../../meter/CappedSpecs/index.html#amounts_of">amounts_of</a>, <a href="../../meter/CappedSpecs/index.html#Capped">Capped</a>, <a href="../../meter/CappedSpecs/index.html#capped_rules">capped_rules</a>, <a href="../../meter/CappedSpecs/index.html#held_together">held_together</a>}
 use Rattle.wasmi_meter.specs.Limiter.{<a href="../../meter/LimiterSpecs/index.html#Rules">Rules</a>, <a href="../../meter/LimiterSpecs/index.html#optional_rules">optional_rules</a>}
-use Rattle.wasmi_budget.specs.declared.tenant.Tenant.{Tenant}
+use Rattle.wasmi_budget.specs.declared.{tenant.Tenant.Tenant, error.AddError.AddError, error.PoolError.PoolError, error.ReserveError.ReserveError, error.RunIntoError.RunIntoError}
 use Rattle.std.specs.Prelude.{◌≡◌, ◌≤◌, ◌&lt;◌, ◌+◌, ◌-◌, ◌^◌, ◌++◌, ⊤, ℕ, List, [], ◌∷◌, Option, Some, None, slice_index_or, slice_set, sum_by, remove, codes}
-use Rattle.wasmi_meter.specs.declared.limiter.Kind.{Kind}
 use Rattle.wasmi_meter.specs.declared.limiter.Kind.TheVariants.{Bytes, Elements}
-use Rattle.wasmi_meter.specs.declared.quota.Amounts.{Amounts}
-use Rattle.wasmi_machine.specs.declared.calls.Call.{Call}
+use Rattle.wasmi_machine.specs.declared.{calls.Call.Call, calls.Reply.Reply, slots.SlotCounts.SlotCounts}
 use Rattle.wasmi_machine.specs.declared.calls.Call.TheVariants.{Binary, CopyMemory, FillMemory, InitMemory, SetFuel, Store}
-use Rattle.wasmi_machine.specs.declared.calls.Reply.{Reply}
 use Rattle.wasmi_machine.specs.State.{<a href="../../machine/StateSpecs/index.html#State">State</a>, <a href="../../machine/StateSpecs/index.html#total">total</a>, <a href="../../machine/StateSpecs/index.html#world">world</a>, <a href="../../machine/StateSpecs/index.html#with_reserved">with_reserved</a>, <a href="../../machine/StateSpecs/index.html#with_tables">with_tables</a>, <a href="../../machine/StateSpecs/index.html#HoldsTotals">HoldsTotals</a>}
 use Rattle.wasmi_machine.specs.Steps.{<a href="../../machine/StepsSpecs/index.html#IsRunOf">IsRunOf</a>, <a href="../../machine/StepsSpecs/index.html#RepliesWith">RepliesWith</a>}
 use Rattle.wasmi_machine.specs.TableEffects.{<a href="../../machine/TableEffectsSpecs/index.html#ReservesElementsAt">ReservesElementsAt</a>}
-use Rattle.wasmi_machine.specs.declared.slots.SlotCounts.{SlotCounts}
-use Rattle.wasmi_budget.specs.declared.error.AddError.{AddError}
 use Rattle.wasmi_budget.specs.declared.error.AddError.TheVariants.{NotEmpty, NoRoom}
-use Rattle.wasmi_budget.specs.declared.error.PoolError.{PoolError}
 use Rattle.wasmi_budget.specs.declared.error.PoolError.TheVariants.{NoTenant, OutOfMemory}
-use Rattle.wasmi_budget.specs.declared.error.ReserveError.{ReserveError}
 use Rattle.wasmi_budget.specs.declared.error.ReserveError.TheVariants as reserve
-use Rattle.wasmi_budget.specs.declared.error.RunIntoError.{RunIntoError}
 use Rattle.wasmi_budget.specs.declared.error.RunIntoError.TheVariants as into
 
 -- what a tenant holds
@@ -6101,8 +5977,7 @@ pub record <b id="BecomesAt">BecomesAt</b> (<a href="../../budget/PoolSpecs/inde
 
 -- the machine at an index has replied to a call without its tenant, and all others are the same
 abbrev pub <b id="RunsUnasked">RunsUnasked</b> : List (Option <a href="../../machine/StateSpecs/index.html#State">State</a>) → ℕ → Call → Reply → List (Option <a href="../../machine/StateSpecs/index.html#State">State</a>) → Type 0
-<a href="../../budget/PoolSpecs/index.html#RunsUnasked">RunsUnasked</a> <a href="../../budget/PoolSpecs/index.html#machines">machines</a> index call reply machines&#x27; =
-    <a href="../../budget/PoolSpecs/index.html#BecomesAt">BecomesAt</a> <a href="../../budget/PoolSpecs/index.html#machines">machines</a> index (λ s s&#x27;. <a href="../../budget/PoolSpecs/index.html#RepliesUnasked">RepliesUnasked</a> call s reply s&#x27;) machines&#x27;
+<a href="../../budget/PoolSpecs/index.html#RunsUnasked">RunsUnasked</a> <a href="../../budget/PoolSpecs/index.html#machines">machines</a> index call reply = <a href="../../budget/PoolSpecs/index.html#BecomesAt">BecomesAt</a> <a href="../../budget/PoolSpecs/index.html#machines">machines</a> index (λ s s&#x27;. <a href="../../budget/PoolSpecs/index.html#RepliesUnasked">RepliesUnasked</a> call s reply s&#x27;)
 
 -- the machine of a tenant was taken off: its index has none from then on, and all else is the same
 pub record <b id="RemovesTenant">RemovesTenant</b> (pool : <a href="../../budget/PoolSpecs/index.html#PoolValue">PoolValue</a>) (index : ℕ) (s : <a href="../../machine/StateSpecs/index.html#State">State</a>) (pool&#x27; : <a href="../../budget/PoolSpecs/index.html#PoolValue">PoolValue</a>) : Type 0 where
@@ -6115,16 +5990,14 @@ abbrev pub <b id="ReservesAt">ReservesAt</b> : List (Option <a href="../../machi
 
 -- the machine of a tenant has so many more slots reserved, and all else is the same
 abbrev pub <b id="ReservesForTenant">ReservesForTenant</b> : <a href="../../budget/PoolSpecs/index.html#PoolValue">PoolValue</a> → ℕ → SlotCounts → <a href="../../budget/PoolSpecs/index.html#PoolValue">PoolValue</a> → Type 0
-<a href="../../budget/PoolSpecs/index.html#ReservesForTenant">ReservesForTenant</a> pool index more pool&#x27; =
-    (pool&#x27;.<a href="../../budget/PoolSpecs/index.html#caps">caps</a> ≡ pool.caps) × <a href="../../budget/PoolSpecs/index.html#ReservesAt">ReservesAt</a> pool.machines index more pool&#x27;.<a href="../../budget/PoolSpecs/index.html#machines">machines</a>
+<a href="../../budget/PoolSpecs/index.html#ReservesForTenant">ReservesForTenant</a> pool index more pool&#x27; = (pool&#x27;.<a href="../../budget/PoolSpecs/index.html#caps">caps</a> ≡ pool.caps) × <a href="../../budget/PoolSpecs/index.html#ReservesAt">ReservesAt</a> pool.machines index more pool&#x27;.<a href="../../budget/PoolSpecs/index.html#machines">machines</a>
 
 -- a machine has replied to a reservation of so many elements in all of one of its tables, and all else is the same
 abbrev pub <b id="ReservesElements">ReservesElements</b> : <a href="../../machine/StateSpecs/index.html#State">State</a> → ℕ → ℕ → Reply → <a href="../../machine/StateSpecs/index.html#State">State</a> → Type 0
 <a href="../../budget/PoolSpecs/index.html#ReservesElements">ReservesElements</a> s table <a href="../../budget/PoolSpecs/index.html#elements">elements</a> reply s&#x27; =
     <a href="../../machine/TableEffectsSpecs/index.html#ReservesElementsAt">ReservesElementsAt</a> table <a href="../../budget/PoolSpecs/index.html#elements">elements</a> s.tables reply s&#x27;.tables × (s&#x27; ≡ <a href="../../machine/StateSpecs/index.html#with_tables">with_tables</a> s s&#x27;.tables)
 
--- the machine at an index has replied to a reservation of so many elements in all of one of its tables, and all others
--- are the same
+-- the machine at an index has replied to a reservation of elements of one of its tables, and all others are the same
 abbrev pub <b id="ReservesElementsIn">ReservesElementsIn</b> : List (Option <a href="../../machine/StateSpecs/index.html#State">State</a>) → ℕ → ℕ → ℕ → Reply → List (Option <a href="../../machine/StateSpecs/index.html#State">State</a>) → Type 0
 <a href="../../budget/PoolSpecs/index.html#ReservesElementsIn">ReservesElementsIn</a> <a href="../../budget/PoolSpecs/index.html#machines">machines</a> index table <a href="../../budget/PoolSpecs/index.html#elements">elements</a> reply machines&#x27; =
     <a href="../../budget/PoolSpecs/index.html#BecomesAt">BecomesAt</a> <a href="../../budget/PoolSpecs/index.html#machines">machines</a> index (λ s s&#x27;. <a href="../../budget/PoolSpecs/index.html#ReservesElements">ReservesElements</a> s table <a href="../../budget/PoolSpecs/index.html#elements">elements</a> reply s&#x27;) machines&#x27;
@@ -6195,7 +6068,7 @@ module _ {X : Type 0} where
 }
 /// Definitions of `wasmi_region`.
 pub mod region {
-    #[doc = r####"What holds of all tables on regions: what the limiter alone can refuse, and that they are made and grow as other tables.
+    #[doc = r####"What holds of all tables on regions: what the limiter alone can refuse, and that they do as other tables.
 
 <pre><code>use Rattle.std.specs.Prelude.{◌≡◌, ◌+◌, ◌≤◌, ◌⊎◌, ℕ, true, Option, Result, Ok}
 use Rattle.wasmi_meter.specs.Attempt.{<a href="../../meter/AttemptSpecs/index.html#MeteredValue">MeteredValue</a>, <a href="../../meter/AttemptSpecs/index.html#optional_due">optional_due</a>, <a href="../../meter/AttemptSpecs/index.html#covers">covers</a>}
@@ -6222,8 +6095,7 @@ module _ {S : Type 0} (rules : <a href="../../meter/LimiterSpecs/index.html#Rule
       → ty.minimum ≤ room → <a href="../../region/TableSpecs/index.html#MakesTableIn">MakesTableIn</a> rules ty room reference l result l&#x27;
       → (result ≡ Ok (<a href="../../store/TableSpecs/index.html#new_table">new_table</a> ty reference)) ⊎ <a href="../../store/GrowthSpecs/index.html#IsDenied">IsDenied</a> rules (<a href="../../region/TableSpecs/index.html#creation_in">creation_in</a> ty room).question l l&#x27;
 
-  -- a growth of a table that its type and its region have place for, and that can be paid, is refused by the limiter
-  -- alone
+  -- a growth of a table that its type and region have place for, and that can be paid, the limiter alone refuses
   abbrev pub <b id="TableGrowthsSucceed">TableGrowthsSucceed</b> : Type 0
   <a href="../../region/LawsSpecs/index.html#TableGrowthsSucceed">TableGrowthsSucceed</a> =
       (room n reference : ℕ) (s : <a href="../../meter/AttemptSpecs/index.html#MeteredValue">MeteredValue</a> <a href="../../store/TableSpecs/index.html#TableValue">TableValue</a> S) (result : Result ℕ TableError)
@@ -6306,9 +6178,8 @@ abbrev pub <b id="items_of">items_of</b> : <a href="../../store/TableSpecs/index
 -- what is asked where a table of a type is made on a region of so many references, and the causes of a refusal: it is
 -- out of memory if the region is shorter than the minimum
 abbrev pub <b id="creation_in">creation_in</b> : <a href="../../store/TableSpecs/index.html#TableTypeValue">TableTypeValue</a> → ℕ → <a href="../../meter/AttemptSpecs/index.html#Request">Request</a> (Unit {0}) TableError
-<a href="../../region/TableSpecs/index.html#creation_in">creation_in</a> ty room = record (<a href="../../store/TableSpecs/index.html#creation_of">creation_of</a> ty ty.element) {
-  refuses = λ cause. (cause ≡ OutOfSystemMemory) × (room &lt; ty.minimum);
-}
+<a href="../../region/TableSpecs/index.html#creation_in">creation_in</a> ty room =
+    record (<a href="../../store/TableSpecs/index.html#creation_of">creation_of</a> ty ty.element) { refuses = λ cause. (cause ≡ OutOfSystemMemory) × (room &lt; ty.minimum) }
 
 -- what is asked and paid where a table on a region of so many references grows by n elements, and the causes of a
 -- refusal: those of any table, and only if the region is shorter than the new size
@@ -6319,20 +6190,17 @@ abbrev pub <b id="growth_in">growth_in</b> : ℕ → <a href="../../store/TableS
 
 -- the growth of a table on a region of so many references, by n elements
 abbrev pub <b id="region_growth">region_growth</b> : ℕ → ℕ → ℕ → <a href="../../store/TableSpecs/index.html#TableValue">TableValue</a> → <a href="../../store/GrowthSpecs/index.html#Growth">Growth</a> <a href="../../store/TableSpecs/index.html#TableValue">TableValue</a> TableError
-<a href="../../region/TableSpecs/index.html#region_growth">region_growth</a> room n reference x =
-    record { amount = n; size = <a href="../../store/TableSpecs/index.html#size_of">size_of</a> x; request = <a href="../../region/TableSpecs/index.html#growth_in">growth_in</a> room x n reference }
+<a href="../../region/TableSpecs/index.html#region_growth">region_growth</a> room n reference x = record { amount = n; size = <a href="../../store/TableSpecs/index.html#size_of">size_of</a> x; request = <a href="../../region/TableSpecs/index.html#growth_in">growth_in</a> room x n reference }
 
 -- a table of a type is made of one reference on a region of so many
 abbrev pub <b id="MakesTableIn">MakesTableIn</b> : {S : Type 0} → <a href="../../meter/LimiterSpecs/index.html#Rules">Rules</a> S → <a href="../../store/TableSpecs/index.html#TableTypeValue">TableTypeValue</a> → ℕ → ℕ → S → Result <a href="../../store/TableSpecs/index.html#TableValue">TableValue</a> TableError → S
     → Type 0
-<a href="../../region/TableSpecs/index.html#MakesTableIn">MakesTableIn</a> rules ty room reference l result l&#x27; =
-    <a href="../../store/GrowthSpecs/index.html#Makes">Makes</a> rules (<a href="../../region/TableSpecs/index.html#creation_in">creation_in</a> ty room) (<a href="../../store/TableSpecs/index.html#new_table">new_table</a> ty reference) l result l&#x27;
+<a href="../../region/TableSpecs/index.html#MakesTableIn">MakesTableIn</a> rules ty room reference = <a href="../../store/GrowthSpecs/index.html#Makes">Makes</a> rules (<a href="../../region/TableSpecs/index.html#creation_in">creation_in</a> ty room) (<a href="../../store/TableSpecs/index.html#new_table">new_table</a> ty reference)
 
 -- a table on a region of so many references grows by n elements; it returns the old size
 abbrev pub <b id="GrowsTableIn">GrowsTableIn</b> : {S : Type 0} → <a href="../../meter/LimiterSpecs/index.html#Rules">Rules</a> S → ℕ → ℕ → ℕ → <a href="../../meter/AttemptSpecs/index.html#MeteredValue">MeteredValue</a> <a href="../../store/TableSpecs/index.html#TableValue">TableValue</a> S → Result ℕ TableError
     → <a href="../../meter/AttemptSpecs/index.html#MeteredValue">MeteredValue</a> <a href="../../store/TableSpecs/index.html#TableValue">TableValue</a> S → Type 0
-<a href="../../region/TableSpecs/index.html#GrowsTableIn">GrowsTableIn</a> rules room n reference s result s&#x27; =
-    <a href="../../store/GrowthSpecs/index.html#WithCharge">WithCharge</a> (<a href="../../store/GrowthSpecs/index.html#Grows">Grows</a> rules (<a href="../../region/TableSpecs/index.html#region_growth">region_growth</a> room n reference s.value)) s result s&#x27;
+<a href="../../region/TableSpecs/index.html#GrowsTableIn">GrowsTableIn</a> rules room n reference s = <a href="../../store/GrowthSpecs/index.html#WithCharge">WithCharge</a> (<a href="../../store/GrowthSpecs/index.html#Grows">Grows</a> rules (<a href="../../region/TableSpecs/index.html#region_growth">region_growth</a> room n reference s.value)) s
 </code></pre>
 "####]
     pub mod TableSpecs {}
@@ -6341,46 +6209,20 @@ abbrev pub <b id="GrowsTableIn">GrowsTableIn</b> : {S : Type 0} → <a href="../
 pub mod facade {
     #[doc = r####"The types of the parts that clauses and specifications cite, passed on from one place. Declares nothing.
 
-<pre><code>pub <b id="use">use</b> Rattle.wasmi_types.specs.declared.index_ty.IndexType.{IndexType}
-pub <b id="use">use</b> Rattle.wasmi_types.specs.declared.trap.TrapCode.{TrapCode}
-pub <b id="use">use</b> Rattle.wasmi_types.specs.declared.value.RefType.{RefType}
-pub <b id="use">use</b> Rattle.wasmi_types.specs.declared.value.ValType.{ValType}
+<pre><code>pub <b id="use">use</b> Rattle.wasmi_types.specs.declared.{index_ty.IndexType.IndexType, trap.TrapCode.TrapCode, value.RefType.RefType, value.ValType.ValType}
 pub <b id="use">use</b> Rattle.wasmi_raw.specs.declared.raw.RawVal.{RawVal}
-pub <b id="use">use</b> Rattle.wasmi_typed.specs.declared.typed.TypedRawVal.{TypedRawVal}
-pub <b id="use">use</b> Rattle.wasmi_typed.specs.declared.typed_ref.TypedRawRef.{TypedRawRef}
-pub <b id="use">use</b> Rattle.wasmi_typed.specs.declared.global.Mutability.{Mutability}
-pub <b id="use">use</b> Rattle.wasmi_typed.specs.declared.global.GlobalError.{GlobalError}
-pub <b id="use">use</b> Rattle.wasmi_meter.specs.declared.error.LimiterError.{LimiterError}
-pub <b id="use">use</b> Rattle.wasmi_meter.specs.declared.error.MemoryError.{MemoryError}
-pub <b id="use">use</b> Rattle.wasmi_meter.specs.declared.error.TableError.{TableError}
-pub <b id="use">use</b> Rattle.wasmi_meter.specs.declared.fuel.FuelError.{FuelError}
-pub <b id="use">use</b> Rattle.wasmi_meter.specs.declared.fuel.CustomFuelCosts.{CustomFuelCosts}
-pub <b id="use">use</b> Rattle.wasmi_meter.specs.declared.limiter.Kind.{Kind}
-pub <b id="use">use</b> Rattle.wasmi_meter.specs.declared.quota.Quota.{Quota}
+pub <b id="use">use</b> Rattle.wasmi_typed.specs.declared.{typed.TypedRawVal.TypedRawVal, typed_ref.TypedRawRef.TypedRawRef, global.Mutability.Mutability, global.GlobalError.GlobalError}
+pub <b id="use">use</b> Rattle.wasmi_meter.specs.declared.{error.LimiterError.LimiterError, error.MemoryError.MemoryError, error.TableError.TableError, fuel.FuelError.FuelError, fuel.CustomFuelCosts.CustomFuelCosts, limiter.Kind.Kind, quota.Quota.Quota}
 pub <b id="use">use</b> Rattle.wasmi_store.specs.declared.table.element.SegmentError.{SegmentError}
-pub <b id="use">use</b> Rattle.wasmi_ops.specs.declared.load_store.LoadOp.{LoadOp}
-pub <b id="use">use</b> Rattle.wasmi_ops.specs.declared.load_store.StoreOp.{StoreOp}
-pub <b id="use">use</b> Rattle.wasmi_ops.specs.declared.vector.BinaryOp.{BinaryOp}
-pub <b id="use">use</b> Rattle.wasmi_ops.specs.declared.vector.UnaryOp.{UnaryOp}
-pub <b id="use">use</b> Rattle.wasmi_ops.specs.declared.vector.TernaryOp.{TernaryOp}
-pub <b id="use">use</b> Rattle.wasmi_ops.specs.declared.vector.ShiftOp.{ShiftOp}
-pub <b id="use">use</b> Rattle.wasmi_ops.specs.declared.vector.TestOp.{TestOp}
-pub <b id="use">use</b> Rattle.wasmi_ops.specs.declared.vector.MakeOp.{MakeOp}
-pub <b id="use">use</b> Rattle.wasmi_ops.specs.declared.vector.ExtractOp.{ExtractOp}
-pub <b id="use">use</b> Rattle.wasmi_ops.specs.declared.vector.ReplaceOp.{ReplaceOp}
-pub <b id="use">use</b> Rattle.wasmi_ops.specs.declared.vector.VectorLoadOp.{VectorLoadOp}
-pub <b id="use">use</b> Rattle.wasmi_ops.specs.declared.vector.LoadLaneOp.{LoadLaneOp}
-pub <b id="use">use</b> Rattle.wasmi_ops.specs.declared.vector.StoreLaneOp.{StoreLaneOp}
-pub <b id="use">use</b> Rattle.wasmi_machine.specs.declared.calls.Call.{Call}
-pub <b id="use">use</b> Rattle.wasmi_machine.specs.declared.calls.Reply.{Reply}
-pub <b id="use">use</b> Rattle.wasmi_machine.specs.declared.slots.Slot.{Slot}
+pub <b id="use">use</b> Rattle.wasmi_ops.specs.declared.{load_store.LoadOp.LoadOp, load_store.StoreOp.StoreOp, vector.BinaryOp.BinaryOp, vector.UnaryOp.UnaryOp, vector.TernaryOp.TernaryOp, vector.ShiftOp.ShiftOp, vector.TestOp.TestOp, vector.MakeOp.MakeOp, vector.ExtractOp.ExtractOp, vector.ReplaceOp.ReplaceOp, vector.VectorLoadOp.VectorLoadOp, vector.LoadLaneOp.LoadLaneOp, vector.StoreLaneOp.StoreLaneOp}
+pub <b id="use">use</b> Rattle.wasmi_machine.specs.declared.{calls.Call.Call, calls.Reply.Reply, slots.Slot.Slot}
 </code></pre>
 "####]
     pub mod TypesSpecs {}
 }
 /// Definitions of `wasmi_operands`.
 pub mod operands {
-    #[doc = r####"The words of a line, the numbers and limits that they write, and what is accepted of a line and what is a bad command.
+    #[doc = r####"The words of a line, the numbers and limits that they write, and what is accepted of a line or a bad command.
 
 <pre><code>use Rattle.std.specs.Prelude.{ℕ, List, [], filter, length, map, nat_lt, slice_index_or, ◌==◌, ◌≡◌, ◌&lt;◌, ◌^◌, Option, None, Some, codes, Result, Ok, Err, ⊤}
 use Rattle.std.specs.List.{AllZip, slice_split}
@@ -6439,14 +6281,11 @@ abbrev pub <b id="AcceptsWithMemory">AcceptsWithMemory</b> : {A : Type 0} → Re
     #[doc = r####"Lists of names and what a name stands for; the words of types, mutability, references, a limiter's answers, and instructions, also those on a lane; and the words of the lanes of a shuffle.
 
 <pre><code>use Rattle.std.specs.Prelude.{◌≡◌, ℕ, List, [], ◌∷◌, Option, None, Some, cond, bytes_eq, codes, length}
-use Rattle.wasmi_types.specs.declared.index_ty.IndexType.{IndexType}
-use Rattle.wasmi_types.specs.declared.value.RefType.{RefType}
+use Rattle.wasmi_types.specs.declared.{index_ty.IndexType.IndexType, value.RefType.RefType, value.ValType.ValType}
 use Rattle.wasmi_types.specs.declared.value.RefType.TheVariants.{Func, Extern}
-use Rattle.wasmi_types.specs.declared.value.ValType.{ValType}
 use Rattle.wasmi_types.specs.declared.value.ValType.TheVariants.{I32, I64, F32, F64, V128, FuncRef, ExternRef}
-use Rattle.wasmi_typed.specs.declared.global.Mutability.{Mutability}
+use Rattle.wasmi_typed.specs.declared.{global.Mutability.Mutability, typed_ref.TypedRawRef.TypedRawRef}
 use Rattle.wasmi_typed.specs.declared.global.Mutability.TheVariants.{Const, Var}
-use Rattle.wasmi_typed.specs.declared.typed_ref.TypedRawRef.{TypedRawRef}
 use Rattle.wasmi_operands.specs.LineWords.{<a href="../../operands/LineWordsSpecs/index.html#WritesNumber">WritesNumber</a>, <a href="../../operands/LineWordsSpecs/index.html#LineWords">LineWords</a>, <a href="../../operands/LineWordsSpecs/index.html#WritesEach">WritesEach</a>}
 use Rattle.wasmi_meter.specs.declared.answer_list.LimiterAnswer.{LimiterAnswer}
 use Rattle.wasmi_meter.specs.declared.answer_list.LimiterAnswer.TheVariants.{Permit, Deny, Error, Complain}
@@ -6557,8 +6396,7 @@ pub record <b id="WritesLimits">WritesLimits</b> (<a href="../../grammar/Command
 abbrev pub <b id="memory_limits">memory_limits</b> : <a href="../../store/MemorySpecs/index.html#MemoryTypeValue">MemoryTypeValue</a> → <a href="../../grammar/CommandsSpecs/index.html#Limits">Limits</a>
 <a href="../../grammar/CommandsSpecs/index.html#memory_limits">memory_limits</a> ty = record { <a href="../../grammar/CommandsSpecs/index.html#index">index</a> = ty.index; <a href="../../grammar/CommandsSpecs/index.html#minimum">minimum</a> = ty.minimum; <a href="../../grammar/CommandsSpecs/index.html#maximum">maximum</a> = ty.maximum }
 
--- four words name this memory type, which there is: its minimum, its maximum, its page size and the width of its
--- addresses
+-- four words name this memory type, which there is: its minimum, its maximum, its page size, its addresses&#x27; width
 pub record <b id="NamesType">NamesType</b> (<a href="../../grammar/CommandsSpecs/index.html#minimum">minimum</a> <a href="../../grammar/CommandsSpecs/index.html#maximum">maximum</a> log2 width : List ℕ) (ty : <a href="../../store/MemorySpecs/index.html#MemoryTypeValue">MemoryTypeValue</a>) : Type 0 where
   pub <b id="limits_words">limits_words</b> : <a href="../../grammar/CommandsSpecs/index.html#WritesLimits">WritesLimits</a> <a href="../../grammar/CommandsSpecs/index.html#minimum">minimum</a> <a href="../../grammar/CommandsSpecs/index.html#maximum">maximum</a> width (<a href="../../grammar/CommandsSpecs/index.html#memory_limits">memory_limits</a> ty)
   pub <b id="log2_word">log2_word</b> : <a href="../../operands/LineWordsSpecs/index.html#WritesNumber">WritesNumber</a> 8 log2 (<a href="../../store/MemorySpecs/index.html#page_log2">page_log2</a> ty.page)
@@ -6568,8 +6406,7 @@ pub record <b id="NamesType">NamesType</b> (<a href="../../grammar/CommandsSpecs
 abbrev pub <b id="table_limits">table_limits</b> : <a href="../../store/TableSpecs/index.html#TableTypeValue">TableTypeValue</a> → <a href="../../grammar/CommandsSpecs/index.html#Limits">Limits</a>
 <a href="../../grammar/CommandsSpecs/index.html#table_limits">table_limits</a> ty = record { <a href="../../grammar/CommandsSpecs/index.html#index">index</a> = ty.index; <a href="../../grammar/CommandsSpecs/index.html#minimum">minimum</a> = ty.minimum; <a href="../../grammar/CommandsSpecs/index.html#maximum">maximum</a> = ty.maximum }
 
--- four words name this table type, which there is: the type of its elements, its minimum, its maximum and the width of
--- its indices
+-- four words name this table type, which there is: its element type, its minimum, its maximum, its indices&#x27; width
 pub record <b id="NamesTableType">NamesTableType</b> (element <a href="../../grammar/CommandsSpecs/index.html#minimum">minimum</a> <a href="../../grammar/CommandsSpecs/index.html#maximum">maximum</a> width : List ℕ) (ty : <a href="../../store/TableSpecs/index.html#TableTypeValue">TableTypeValue</a>) : Type 0 where
   pub <b id="element_text">element_text</b> : element ≡ <a href="../../operands/NamesSpecs/index.html#reference_word">reference_word</a> ty.element
   pub <b id="limits_words">limits_words</b> : <a href="../../grammar/CommandsSpecs/index.html#WritesLimits">WritesLimits</a> <a href="../../grammar/CommandsSpecs/index.html#minimum">minimum</a> <a href="../../grammar/CommandsSpecs/index.html#maximum">maximum</a> width (<a href="../../grammar/CommandsSpecs/index.html#table_limits">table_limits</a> ty)
@@ -6768,12 +6605,9 @@ use Rattle.std.specs.Option.{option_map, option_map_or}
 use Rattle.wasmi_meter.specs.Meter.{<a href="../../meter/MeterSpecs/index.html#default_costs">default_costs</a>, <a href="../../meter/MeterSpecs/index.html#Meter">Meter</a>}
 use Rattle.wasmi_machine.specs.State.{<a href="../../machine/StateSpecs/index.html#State">State</a>, <a href="../../machine/StateSpecs/index.html#new_state">new_state</a>, <a href="../../machine/StateSpecs/index.html#no_slots">no_slots</a>}
 use Rattle.wasmi_machine.specs.declared.slots.SlotCounts.{SlotCounts}
-use Rattle.wasmi_grammar.specs.declared.header.Header.{Header}
-use Rattle.wasmi_grammar.specs.declared.header.MeterLine.{MeterLine}
+use Rattle.wasmi_grammar.specs.declared.{header.Header.Header, header.MeterLine.MeterLine, header.LimiterLine.LimiterLine, header.RegionLine.RegionLine}
 use Rattle.wasmi_grammar.specs.declared.header.MeterLine.TheVariants.{Off, On}
-use Rattle.wasmi_grammar.specs.declared.header.LimiterLine.{LimiterLine}
 use Rattle.wasmi_grammar.specs.declared.header.LimiterLine.TheVariants.{Quota, Answers, Tenants}
-use Rattle.wasmi_grammar.specs.declared.header.RegionLine.{RegionLine}
 use Rattle.wasmi_operands.specs.LineWords.{<a href="../../operands/LineWordsSpecs/index.html#LineWords">LineWords</a>, <a href="../../operands/LineWordsSpecs/index.html#WritesEach">WritesEach</a>, <a href="../../operands/LineWordsSpecs/index.html#word_at">word_at</a>, <a href="../../operands/LineWordsSpecs/index.html#WritesNumber">WritesNumber</a>}
 use Rattle.wasmi_operands.specs.Names.{<a href="../../operands/NamesSpecs/index.html#WritesAnswer">WritesAnswer</a>}
 
@@ -6866,15 +6700,12 @@ abbrev pub <b id="start_of">start_of</b> : Header → <a href="../../machine/Sta
 use Rattle.std.specs.List.{slice_split}
 use Rattle.std.specs.Str.{IsUtf8}
 use Rattle.wasmi_machine.specs.declared.calls.Call.{Call}
-use Rattle.wasmi_grammar.specs.declared.header.Header.{Header}
-use Rattle.wasmi_grammar.specs.declared.script.Line.{Line}
+use Rattle.wasmi_grammar.specs.declared.{header.Header.Header, script.Line.Line, script.Script.Script, error.ParseError.ParseError}
 use Rattle.wasmi_grammar.specs.declared.script.Line.TheVariants.{<a href="../../meter/MeterSpecs/index.html#Meter">Meter</a>, Limiter, Region, Reserve, As, Call as Command}
-use Rattle.wasmi_grammar.specs.declared.script.Script.{Script}
 use Rattle.wasmi_operands.specs.LineWords.{<a href="../../operands/LineWordsSpecs/index.html#LineWords">LineWords</a>, <a href="../../operands/LineWordsSpecs/index.html#word_at">word_at</a>, <a href="../../operands/LineWordsSpecs/index.html#words_in">words_in</a>}
 use Rattle.wasmi_grammar.specs.Parts.{<a href="../../grammar/PartsSpecs/index.html#parts_in">parts_in</a>, <a href="../../grammar/PartsSpecs/index.html#calls_in">calls_in</a>}
 use Rattle.wasmi_grammar.specs.Commands.{<a href="../../grammar/CommandsSpecs/index.html#NamesAfter">NamesAfter</a>}
 use Rattle.wasmi_grammar.specs.Headers.{<a href="../../grammar/HeadersSpecs/index.html#WritesMeter">WritesMeter</a>, <a href="../../grammar/HeadersSpecs/index.html#NamesLimiterAfter">NamesLimiterAfter</a>, <a href="../../grammar/HeadersSpecs/index.html#WritesRegion">WritesRegion</a>, <a href="../../grammar/HeadersSpecs/index.html#WritesReserve">WritesReserve</a>, <a href="../../grammar/HeadersSpecs/index.html#WritesTenant">WritesTenant</a>, <a href="../../grammar/HeadersSpecs/index.html#AreApart">AreApart</a>, <a href="../../grammar/HeadersSpecs/index.html#tenants_of">tenants_of</a>}
-use Rattle.wasmi_grammar.specs.declared.error.ParseError.{ParseError}
 use Rattle.wasmi_grammar.specs.declared.error.ParseError.TheVariants.{BadCommand, OutOfMemory}
 
 -- the first word of a line and the words after it say this
@@ -6991,13 +6822,9 @@ abbrev pub <b id="IsParseError">IsParseError</b> : List ℕ → ParseError → T
 <pre><code>use Rattle.std.specs.Prelude.{◌≡◌, ℕ, List, Option, map}
 use Rattle.std.specs.Option.{option_map}
 use Rattle.wasmi_types.specs.declared.value.RefType.{RefType}
-use Rattle.wasmi_machine.specs.declared.calls.Call.{Call}
-use Rattle.wasmi_machine.specs.declared.slots.SlotCounts.{SlotCounts}
+use Rattle.wasmi_machine.specs.declared.{calls.Call.Call, slots.SlotCounts.SlotCounts}
 use Rattle.wasmi_machine.specs.declared.calls.Call.TheVariants.{Write, NewData, NewSegment}
-use Rattle.wasmi_grammar.specs.declared.script.Script.{Script}
-use Rattle.wasmi_grammar.specs.declared.header.MeterLine.{MeterLine}
-use Rattle.wasmi_grammar.specs.declared.header.RegionLine.{RegionLine}
-use Rattle.wasmi_grammar.specs.declared.header.LimiterLine.{LimiterLine}
+use Rattle.wasmi_grammar.specs.declared.{script.Script.Script, header.MeterLine.MeterLine, header.RegionLine.RegionLine, header.LimiterLine.LimiterLine}
 use Rattle.wasmi_grammar.specs.declared.header.LimiterLine.TheVariants.{Answers}
 use Rattle.wasmi_meter.specs.declared.answer_list.LimiterAnswer.{LimiterAnswer}
 use Rattle.wasmi_grammar.specs.Lines.{<a href="../../grammar/LinesSpecs/index.html#WritesScript">WritesScript</a>, <a href="../../grammar/LinesSpecs/index.html#IsFirstBadLine">IsFirstBadLine</a>}
@@ -7119,7 +6946,7 @@ pub record <b id="AreCut">AreCut</b> (spans : List Span) (start : ℕ) (<a href=
 }
 /// Definitions of `wasmi_script`.
 pub mod script {
-    #[doc = r####"Outcomes that the bytes of a reader decide, where memory isn't refused, and runs under lists in which no answer lets a notice be refused.
+    #[doc = r####"Outcomes that a reader's bytes decide, where memory isn't refused, and runs under answers that accept each notice.
 
 <pre><code>use Rattle.std.specs.Prelude.{◌≡◌, ⊤, ℕ, List, All, Option, Some, Ok, Err}
 use Rattle.wasmi_machine.specs.Determinism.{<a href="../../machine/DeterminismSpecs/index.html#IsNotOutOfMemory">IsNotOutOfMemory</a>, <a href="../../machine/DeterminismSpecs/index.html#StaysAccepting">StaysAccepting</a>}
@@ -7130,8 +6957,7 @@ use Rattle.wasmi_grammar.specs.declared.header.LimiterLine.TheVariants.{Answers}
 use Rattle.wasmi_meter.specs.AnswerList.{<a href="../../meter/AnswerListSpecs/index.html#notice_answer_by">notice_answer_by</a>, <a href="../../meter/AnswerListSpecs/index.html#AnswersAhead">AnswersAhead</a>, <a href="../../meter/AnswerListSpecs/index.html#answer_list_rules">answer_list_rules</a>}
 use Rattle.wasmi_script.specs.Outcomes.{<a href="../../script/OutcomesSpecs/index.html#ReplayOutcome">ReplayOutcome</a>, <a href="../../script/OutcomesSpecs/index.html#IsOutcomeOf">IsOutcomeOf</a>, <a href="../../script/OutcomesSpecs/index.html#outcome_text">outcome_text</a>, <a href="../../script/OutcomesSpecs/index.html#status_after">status_after</a>}
 use Rattle.wasmi_meter.specs.Limiter.{<a href="../../meter/LimiterSpecs/index.html#optional_rules">optional_rules</a>}
-use Rattle.wasmi_machine.specs.declared.calls.Call.{Call}
-use Rattle.wasmi_machine.specs.declared.calls.Reply.{Reply}
+use Rattle.wasmi_machine.specs.declared.{calls.Call.Call, calls.Reply.Reply}
 use Rattle.wasmi_machine.specs.State.{<a href="../../machine/StateSpecs/index.html#State">State</a>, <a href="../../machine/StateSpecs/index.html#World">World</a>, <a href="../../machine/StateSpecs/index.html#world">world</a>}
 use Rattle.wasmi_machine.specs.Steps.{<a href="../../machine/StepsSpecs/index.html#IsRunOf">IsRunOf</a>}
 
@@ -7183,20 +7009,16 @@ abbrev pub <b id="QuietListsDecideReplies">QuietListsDecideReplies</b> : Type 0
     #[doc = r####"The outcome of a replay: the whole text that is printed of it, with what is held, the errors of reading, and the status by which a replay ends.
 
 <pre><code>use Rattle.std.specs.Prelude.{ℕ, Result, Ok, Err, ◌&lt;◌, ⊤, List, Option, None, Some, IfSome, length, ◌≡◌, ◌≤◌, ◌⊎◌, [], ◌++◌, codes, flat_map}
-use Rattle.wasmi_script.specs.declared.error.ReplayError.{ReplayError}
+use Rattle.wasmi_script.specs.declared.{error.ReplayError.ReplayError, replaying.Status.Status, replaying.Held.Held, printing.Replayed.Replayed}
 use Rattle.wasmi_script.specs.declared.error.ReplayError.TheVariants.{Parse, TooLong, ReadFault}
-use Rattle.wasmi_script.specs.declared.replaying.Status.{Status}
 use Rattle.wasmi_script.specs.declared.replaying.Status.TheVariants.{Answered, BadScript, OutOfMemory, Fault}
 use Rattle.std.specs.Io.KnownBytes.{Appends}
 use Rattle.std.specs.Fmt.{decimal}
 use Rattle.std.specs.List.{zip, enumerate_from}
 use Rattle.wasmi_meter.specs.declared.limiter.Kind.TheVariants.{Bytes, Elements}
-use Rattle.wasmi_machine.specs.declared.calls.Call.{Call}
-use Rattle.wasmi_machine.specs.declared.calls.Reply.{Reply}
+use Rattle.wasmi_machine.specs.declared.{calls.Call.Call, calls.Reply.Reply}
 use Rattle.wasmi_machine.specs.State.{<a href="../../machine/StateSpecs/index.html#State">State</a>, <a href="../../machine/StateSpecs/index.html#total">total</a>}
-use Rattle.wasmi_script.specs.declared.replaying.Held.{Held}
 use Rattle.wasmi_script.specs.declared.replaying.Held.TheVariants.{<a href="../../machine/ExchangeSpecs/index.html#Nothing">Nothing</a>, Quota, Tenants}
-use Rattle.wasmi_script.specs.declared.printing.Replayed.{Replayed}
 use Rattle.wasmi_grammar.specs.Lines.{<a href="../../grammar/LinesSpecs/index.html#WritesScript">WritesScript</a>, <a href="../../grammar/LinesSpecs/index.html#calls_of">calls_of</a>, <a href="../../grammar/LinesSpecs/index.html#IsFirstBadLine">IsFirstBadLine</a>}
 use Rattle.wasmi_script.specs.Printing.{<a href="../../script/PrintingSpecs/index.html#AppendsFront">AppendsFront</a>, <a href="../../script/PrintingSpecs/index.html#line">line</a>}
 use Rattle.wasmi_script.specs.ScriptRuns.{<a href="../../script/ScriptRunsSpecs/index.html#IsReplayOf">IsReplayOf</a>}
@@ -7276,8 +7098,7 @@ abbrev pub <b id="IsOutcomeOfReader">IsOutcomeOfReader</b> : Option (List ℕ) �
 <a href="../../script/OutcomesSpecs/index.html#IsOutcomeOfReader">IsOutcomeOfReader</a> given failed <a href="../../script/OutcomesSpecs/index.html#outcome">outcome</a> =
     (bytes : List ℕ) × IfSome given (λ told. told ≡ bytes) × <a href="../../script/OutcomesSpecs/index.html#IsOutcomeOf">IsOutcomeOf</a> bytes <a href="../../script/OutcomesSpecs/index.html#outcome">outcome</a>
 
--- the writer has got the whole text and is flushed, and the status is the outcome&#x27;s, or it has got a front of the text
--- and failed
+-- the writer has the whole text and is flushed, and the status is the outcome&#x27;s; or it has a front, and failed
 abbrev pub <b id="PrintsOutcome">PrintsOutcome</b> : Option (List ℕ) → Option (List ℕ) → Type 0 → <a href="../../script/OutcomesSpecs/index.html#ReplayOutcome">ReplayOutcome</a> → Status → Type 0
 <a href="../../script/OutcomesSpecs/index.html#PrintsOutcome">PrintsOutcome</a> old new flushed <a href="../../script/OutcomesSpecs/index.html#outcome">outcome</a> status =
     (Appends old new (<a href="../../script/OutcomesSpecs/index.html#outcome_text">outcome_text</a> <a href="../../script/OutcomesSpecs/index.html#outcome">outcome</a>) × flushed × (status ≡ <a href="../../script/OutcomesSpecs/index.html#status_after">status_after</a> <a href="../../script/OutcomesSpecs/index.html#outcome">outcome</a>))
@@ -7370,32 +7191,24 @@ abbrev pub <b id="AddsToFront">AddsToFront</b> : List ℕ → List ℕ → ℕ �
 </code></pre>
 "####]
     pub mod PrintingSpecs {}
-    #[doc = r####"What the run of a script returns, as its header lines ask for it: on a new machine under a new limiter, or by parts on a new pool.
+    #[doc = r####"What the run of a script returns, by its header lines: on a new machine under a limiter, or by parts on a new pool.
 
 <pre><code>use Rattle.std.specs.Prelude.{◌≡◌, List, [], ◌∷◌, ◌++◌, Option, None, Some, replicate}
 use Rattle.wasmi_meter.specs.Limiter.{<a href="../../meter/LimiterSpecs/index.html#optional_rules">optional_rules</a>, <a href="../../meter/LimiterSpecs/index.html#unlimited_rules">unlimited_rules</a>}
-use Rattle.wasmi_meter.specs.declared.limiter.NoLimits.{NoLimits}
-use Rattle.wasmi_meter.specs.declared.quota.Quota.{Quota}
+use Rattle.wasmi_meter.specs.declared.{limiter.NoLimits.NoLimits, quota.Quota.Quota, quota.Amounts.Amounts, answer_list.LimiterAnswer.LimiterAnswer}
 use Rattle.wasmi_meter.specs.declared.limiter.Kind.TheVariants.{Bytes, Elements}
-use Rattle.wasmi_meter.specs.declared.quota.Amounts.{Amounts}
 use Rattle.wasmi_meter.specs.Capped.{<a href="../../script/ScriptRunsSpecs/index.html#nothing">nothing</a>, <a href="../../meter/CappedSpecs/index.html#quota_rules">quota_rules</a>, <a href="../../meter/CappedSpecs/index.html#cap_of">cap_of</a>, <a href="../../meter/CappedSpecs/index.html#holdings">holdings</a>}
-use Rattle.wasmi_machine.specs.declared.calls.Call.{Call}
-use Rattle.wasmi_machine.specs.State.{<a href="../../machine/StateSpecs/index.html#State">State</a>, <a href="../../machine/StateSpecs/index.html#World">World</a>, <a href="../../machine/StateSpecs/index.html#HoldsTotals">HoldsTotals</a>}
+use Rattle.wasmi_machine.specs.declared.{calls.Call.Call, calls.Reply.Reply}
+use Rattle.wasmi_machine.specs.State.{<a href="../../machine/StateSpecs/index.html#State">State</a>, <a href="../../machine/StateSpecs/index.html#World">World</a>, <a href="../../machine/StateSpecs/index.html#world">world</a>, <a href="../../machine/StateSpecs/index.html#HoldsTotals">HoldsTotals</a>}
 use Rattle.wasmi_machine.specs.Steps.{<a href="../../machine/StepsSpecs/index.html#IsRunOf">IsRunOf</a>}
-use Rattle.wasmi_machine.specs.declared.calls.Reply.{Reply}
 use Rattle.wasmi_budget.specs.Pool.{<a href="../../budget/PoolSpecs/index.html#PoolValue">PoolValue</a>, <a href="../../budget/PoolSpecs/index.html#RunsTenant">RunsTenant</a>}
-use Rattle.wasmi_grammar.specs.declared.header.Header.{Header}
-use Rattle.wasmi_grammar.specs.declared.script.Script.{Script}
-use Rattle.wasmi_grammar.specs.declared.header.LimiterLine.{LimiterLine}
+use Rattle.wasmi_grammar.specs.declared.{header.Header.Header, script.Script.Script, header.LimiterLine.LimiterLine, header.TenantsLine.TenantsLine}
 use Rattle.wasmi_grammar.specs.declared.header.LimiterLine.TheVariants as Lines
-use Rattle.wasmi_grammar.specs.declared.header.TenantsLine.{TenantsLine}
 use Rattle.wasmi_grammar.specs.Lines.{<a href="../../grammar/LinesSpecs/index.html#calls_of">calls_of</a>}
 use Rattle.wasmi_grammar.specs.Parts.{<a href="../../grammar/PartsSpecs/index.html#TenantRun">TenantRun</a>, <a href="../../grammar/PartsSpecs/index.html#parts_in">parts_in</a>}
 use Rattle.wasmi_script.specs.declared.replaying.Held.TheVariants.{<a href="../../machine/ExchangeSpecs/index.html#Nothing">Nothing</a>}
 use Rattle.wasmi_script.specs.declared.replaying.Held.TheVariants as Holding
-use Rattle.wasmi_script.specs.declared.replaying.Held.{Held}
-use Rattle.wasmi_script.specs.declared.replaying.Ran.{<a href="../../budget/LawsSpecs/index.html#Ran">Ran</a>}
-use Rattle.wasmi_meter.specs.declared.answer_list.LimiterAnswer.{LimiterAnswer}
+use Rattle.wasmi_script.specs.declared.{replaying.Held.Held, replaying.Ran.Ran}
 use Rattle.wasmi_meter.specs.AnswerList.{<a href="../../meter/AnswerListSpecs/index.html#AnswersAhead">AnswersAhead</a>, <a href="../../meter/AnswerListSpecs/index.html#answer_list_rules">answer_list_rules</a>, <a href="../../meter/AnswerListSpecs/index.html#new_answers">new_answers</a>}
 use Rattle.wasmi_grammar.specs.Headers.{<a href="../../grammar/HeadersSpecs/index.html#start_of">start_of</a>, <a href="../../grammar/HeadersSpecs/index.html#tenant_start">tenant_start</a>}
 
@@ -7405,25 +7218,21 @@ pub record <b id="IsNewQuota">IsNewQuota</b> (caps : Amounts) (quota : Quota) : 
   pub <b id="elements">elements</b> : <a href="../../meter/CappedSpecs/index.html#cap_of">cap_of</a> quota Elements ≡ caps.elements
   pub <b id="nothing">nothing</b> : <a href="../../meter/CappedSpecs/index.html#holdings">holdings</a> quota ≡ record { held = <a href="../../script/ScriptRunsSpecs/index.html#nothing">nothing</a>; last = None }
 
--- The replies, with what is held, are those of a run of the calls from a machine, under a limiter that has these
--- answers.
+-- The replies, with what is held, are those of a run of the calls from a machine, under a limiter of these answers.
 abbrev pub <b id="IsListedReplay">IsListedReplay</b> : List LimiterAnswer → <a href="../../machine/StateSpecs/index.html#State">State</a> → List Call → List Reply → Held → Type 0
 <a href="../../script/ScriptRunsSpecs/index.html#IsListedReplay">IsListedReplay</a> answers start calls replies held = (held ≡ <a href="../../machine/ExchangeSpecs/index.html#Nothing">Nothing</a>) × (after : <a href="../../machine/StateSpecs/index.html#World">World</a> (Option <a href="../../meter/AnswerListSpecs/index.html#AnswersAhead">AnswersAhead</a>))
-    × <a href="../../machine/StepsSpecs/index.html#IsRunOf">IsRunOf</a> (<a href="../../meter/LimiterSpecs/index.html#optional_rules">optional_rules</a> <a href="../../meter/AnswerListSpecs/index.html#answer_list_rules">answer_list_rules</a>) calls
-    (record { state = start; limiter = Some (<a href="../../meter/AnswerListSpecs/index.html#new_answers">new_answers</a> answers) }) replies after
+    × <a href="../../machine/StepsSpecs/index.html#IsRunOf">IsRunOf</a> (<a href="../../meter/LimiterSpecs/index.html#optional_rules">optional_rules</a> <a href="../../meter/AnswerListSpecs/index.html#answer_list_rules">answer_list_rules</a>) calls (<a href="../../machine/StateSpecs/index.html#world">world</a> start (Some (<a href="../../meter/AnswerListSpecs/index.html#new_answers">new_answers</a> answers))) replies after
 
 -- The replies are those of a run of the calls on a new machine with the meter, the reserved slots and the region of
 -- these header lines, without a limiter or under the one that a line asks for. What is held is what a quota then holds,
 -- which is all that the machine has.
-abbrev pub <b id="IsReplayOnOne">IsReplayOnOne</b> : Option LimiterLine → Header → List Call → <a href="../../budget/LawsSpecs/index.html#Ran">Ran</a> → Type 0
+abbrev pub <b id="IsReplayOnOne">IsReplayOnOne</b> : Option LimiterLine → Header → List Call → Ran → Type 0
 <a href="../../script/ScriptRunsSpecs/index.html#IsReplayOnOne">IsReplayOnOne</a> None header calls ran = (ran.held ≡ <a href="../../machine/ExchangeSpecs/index.html#Nothing">Nothing</a>) × (after : <a href="../../machine/StateSpecs/index.html#World">World</a> (Option NoLimits))
-    × <a href="../../machine/StepsSpecs/index.html#IsRunOf">IsRunOf</a> (<a href="../../meter/LimiterSpecs/index.html#optional_rules">optional_rules</a> <a href="../../meter/LimiterSpecs/index.html#unlimited_rules">unlimited_rules</a>) calls (record { state = <a href="../../grammar/HeadersSpecs/index.html#start_of">start_of</a> header; limiter = None })
-    ran.replies.items after
+    × <a href="../../machine/StepsSpecs/index.html#IsRunOf">IsRunOf</a> (<a href="../../meter/LimiterSpecs/index.html#optional_rules">optional_rules</a> <a href="../../meter/LimiterSpecs/index.html#unlimited_rules">unlimited_rules</a>) calls (<a href="../../machine/StateSpecs/index.html#world">world</a> (<a href="../../grammar/HeadersSpecs/index.html#start_of">start_of</a> header) None) ran.replies.items after
 <a href="../../script/ScriptRunsSpecs/index.html#IsReplayOnOne">IsReplayOnOne</a> (Some (Lines.Quota caps)) header calls ran =
     (quota : Quota) × <a href="../../script/ScriptRunsSpecs/index.html#IsNewQuota">IsNewQuota</a> caps quota × (end : <a href="../../machine/StateSpecs/index.html#State">State</a>) × (after : Quota)
-    × <a href="../../machine/StepsSpecs/index.html#IsRunOf">IsRunOf</a> (<a href="../../meter/LimiterSpecs/index.html#optional_rules">optional_rules</a> <a href="../../meter/CappedSpecs/index.html#quota_rules">quota_rules</a>) calls (record { state = <a href="../../grammar/HeadersSpecs/index.html#start_of">start_of</a> header; limiter = Some quota })
-    ran.replies.items (record { state = end; limiter = Some after })
-    × <a href="../../machine/StateSpecs/index.html#HoldsTotals">HoldsTotals</a> (<a href="../../meter/CappedSpecs/index.html#holdings">holdings</a> after) end × (ran.held ≡ Holding.Quota (<a href="../../meter/CappedSpecs/index.html#holdings">holdings</a> after).held)
+    × <a href="../../machine/StepsSpecs/index.html#IsRunOf">IsRunOf</a> (<a href="../../meter/LimiterSpecs/index.html#optional_rules">optional_rules</a> <a href="../../meter/CappedSpecs/index.html#quota_rules">quota_rules</a>) calls (<a href="../../machine/StateSpecs/index.html#world">world</a> (<a href="../../grammar/HeadersSpecs/index.html#start_of">start_of</a> header) (Some quota)) ran.replies.items
+    (<a href="../../machine/StateSpecs/index.html#world">world</a> end (Some after)) × <a href="../../machine/StateSpecs/index.html#HoldsTotals">HoldsTotals</a> (<a href="../../meter/CappedSpecs/index.html#holdings">holdings</a> after) end × (ran.held ≡ Holding.Quota (<a href="../../meter/CappedSpecs/index.html#holdings">holdings</a> after).held)
 <a href="../../script/ScriptRunsSpecs/index.html#IsReplayOnOne">IsReplayOnOne</a> (Some (Lines.Answers answers)) header calls ran =
     <a href="../../script/ScriptRunsSpecs/index.html#IsListedReplay">IsListedReplay</a> answers.items (<a href="../../grammar/HeadersSpecs/index.html#start_of">start_of</a> header) calls ran.replies.items ran.held
 <a href="../../script/ScriptRunsSpecs/index.html#IsReplayOnOne">IsReplayOnOne</a> (Some (Lines.Tenants line)) header calls ran = ⊥
@@ -7442,18 +7251,17 @@ abbrev pub <b id="AnswersParts">AnswersParts</b> : <a href="../../budget/PoolSpe
 
 -- The replies are those of the parts, one after another, on a pool of new machines with the script&#x27;s meter and its
 -- reserved slots. What is held is what the pool&#x27;s machines have then.
-abbrev pub <b id="IsPoolReplay">IsPoolReplay</b> : TenantsLine → Script → <a href="../../budget/LawsSpecs/index.html#Ran">Ran</a> → Type 0
+abbrev pub <b id="IsPoolReplay">IsPoolReplay</b> : TenantsLine → Script → Ran → Type 0
 <a href="../../script/ScriptRunsSpecs/index.html#IsPoolReplay">IsPoolReplay</a> line script ran = (pool : <a href="../../budget/PoolSpecs/index.html#PoolValue">PoolValue</a>) × (ran.held ≡ Holding.Tenants pool)
     × <a href="../../script/ScriptRunsSpecs/index.html#AnswersParts">AnswersParts</a> (<a href="../../script/ScriptRunsSpecs/index.html#new_pool">new_pool</a> line (<a href="../../grammar/HeadersSpecs/index.html#tenant_start">tenant_start</a> script.header)) (<a href="../../grammar/PartsSpecs/index.html#parts_in">parts_in</a> script.parts) ran.replies.items pool
 
--- the replies are those of the parts on a pool, or those of a run on a new machine with the script&#x27;s meter, its reserved
--- slots and its region
-abbrev pub <b id="IsReplayBy">IsReplayBy</b> : Option LimiterLine → Script → <a href="../../budget/LawsSpecs/index.html#Ran">Ran</a> → Type 0
+-- the replies are those of the parts on a pool, or of a run on a new machine with the script&#x27;s meter, slots and region
+abbrev pub <b id="IsReplayBy">IsReplayBy</b> : Option LimiterLine → Script → Ran → Type 0
 <a href="../../script/ScriptRunsSpecs/index.html#IsReplayBy">IsReplayBy</a> (Some (Lines.Tenants line)) script ran = <a href="../../script/ScriptRunsSpecs/index.html#IsPoolReplay">IsPoolReplay</a> line script ran
 <a href="../../script/ScriptRunsSpecs/index.html#IsReplayBy">IsReplayBy</a> limiter script ran = <a href="../../script/ScriptRunsSpecs/index.html#IsReplayOnOne">IsReplayOnOne</a> limiter script.header (<a href="../../grammar/LinesSpecs/index.html#calls_of">calls_of</a> script) ran
 
 -- the replies are those of a run as the script&#x27;s header lines ask for it
-abbrev pub <b id="IsReplayOf">IsReplayOf</b> : Script → <a href="../../budget/LawsSpecs/index.html#Ran">Ran</a> → Type 0
+abbrev pub <b id="IsReplayOf">IsReplayOf</b> : Script → Ran → Type 0
 <a href="../../script/ScriptRunsSpecs/index.html#IsReplayOf">IsReplayOf</a> script ran = <a href="../../script/ScriptRunsSpecs/index.html#IsReplayBy">IsReplayBy</a> script.header.limiter_line script ran
 </code></pre>
 "####]
@@ -7467,14 +7275,12 @@ use Rattle.wasmi_meter.specs.Texts.{<a href="../../meter/TextsSpecs/index.html#f
 use Rattle.wasmi_typed.specs.Global.{<a href="../../typed/GlobalSpecs/index.html#global_error_text">global_error_text</a>}
 use Rattle.wasmi_typed.specs.declared.typed_ref.TypedRawRef.{TypedRawRef}
 use Rattle.wasmi_store.specs.Segment.{<a href="../../store/SegmentSpecs/index.html#segment_error_text">segment_error_text</a>}
-use Rattle.wasmi_machine.specs.declared.calls.Call.{Call}
+use Rattle.wasmi_machine.specs.declared.{calls.Call.Call, calls.Reply.Reply}
 use Rattle.wasmi_machine.specs.declared.calls.Call.TheVariants.{NewMemory, NewLentMemory, NewTable, NewData, NewSegment, NewGlobal}
-use Rattle.wasmi_machine.specs.declared.calls.Reply.{Reply}
-use Rattle.wasmi_script.specs.declared.error.ReplayError.{ReplayError}
+use Rattle.wasmi_script.specs.declared.{error.ReplayError.ReplayError, printing.Wording.Wording}
 use Rattle.wasmi_script.specs.declared.error.ReplayError.TheVariants.{Parse, TooLong, ReadFault}
 use Rattle.wasmi_grammar.specs.declared.error.ParseError.TheVariants.{BadCommand, OutOfMemory}
 use Rattle.wasmi_operands.specs.Names.{<a href="../../operands/NamesSpecs/index.html#reference_word">reference_word</a>}
-use Rattle.wasmi_script.specs.declared.printing.Wording.{Wording}
 use Rattle.wasmi_machine.specs.declared.calls.Reply.TheVariants as reply
 
 -- the word for what a call makes; only creations make anything

@@ -5,8 +5,7 @@ pub mod bulk {
     //! fuel. The bounds are tested first, then the fuel, also for no item. A write that is refused writes and
     //! takes nothing. A bound is cast after the test alone, when it is no greater than a length.
     //!
-    //! Own: upstream's crate has no bulk instructions for memories. They are tested and charged as its
-    //! calls on tables.
+    //! Own: upstream has no bulk instructions for memories. They are tested and charged as for tables.
 
     use crate::proved::meter::{Fuel, MemoryError, TableError, ValueSize};
     use crate::proved::store::growth::{GrowthError, charge};
@@ -324,7 +323,8 @@ pub mod growth {
         }
     }
 
-    /// Takes the fuel for copying `values` values of a type. A meter that is off takes nothing.
+    /// Takes the fuel for copying `values` values of a type, as a growth or a write over a range is
+    /// charged. A meter that is off takes nothing.
     ///
     /// # Errors
     ///
@@ -541,8 +541,7 @@ mod memory {
     //! written, filled, copied and initialized.
 
     mod buffer {
-        //! The bytes of a linear memory: its own, or the front of a borrowed region; how they are lent and
-        //! grow.
+        //! A linear memory's bytes: its own, or the front of a borrowed region; how they are lent and grow.
 
         use crate::proved::meter::MemoryError;
         use crate::proved::store::range::fill_range;
@@ -715,8 +714,7 @@ mod memory {
                 self.len
             }
 
-            /// Whether there is room for `new_size` bytes. It is false only for a borrowed buffer that is
-            /// shorter.
+            /// Whether there is room for `new_size` bytes. It is false only for a shorter borrowed buffer.
             ///
             /// # Contract
             ///
@@ -898,8 +896,7 @@ mod memory {
             }
         }
 
-        /// The type of a linear memory: its address type, its page size, and its minimum and optional
-        /// maximum in pages.
+        /// The type of a linear memory: its address type, page size, minimum and optional maximum in pages.
         ///
         /// Core specification, memory types. Upstream: `wasmi_core::MemoryType`.
         ///
@@ -1466,8 +1463,7 @@ mod memory {
             self.ty
         }
 
-        /// The type that it was made with, with the present size as its minimum: a subtype of that
-        /// type.
+        /// The type that it was made with, with the present size as its minimum: a subtype of it.
         ///
         /// # Contract
         ///
@@ -1700,8 +1696,7 @@ mod memory {
             write_bytes(self.buffer.data_mut(), offset, buffer)
         }
 
-        /// Fills `len` bytes from `dst` on with a value. It is charged as a table's `fill`, by the
-        /// bytes.
+        /// Fills `len` bytes from `dst` on with a value. It is charged as a table's `fill`, by bytes.
         ///
         /// Core specification, memory.fill.
         ///
@@ -1755,8 +1750,7 @@ mod memory {
             fill_items(self.data_mut(), dst, value, len, OUTSIDE, fuel)
         }
 
-        /// Copies `len` bytes from `src` on over those from `dst` on. If the ranges overlap, the old
-        /// bytes are copied.
+        /// Copies `len` bytes from `src` on over those from `dst` on: the old ones if they overlap.
         ///
         /// Core specification, memory.copy within a memory.
         ///
@@ -1809,8 +1803,7 @@ mod memory {
             copy_items_within(self.data_mut(), dst, src, len, OUTSIDE, fuel)
         }
 
-        /// Copies `len` bytes of another memory, from `src` on, over the bytes of a memory from `dst`
-        /// on.
+        /// Copies `len` bytes of another memory, from `src` on, over those of a memory from `dst` on.
         ///
         /// Core specification, memory.copy of two memories.
         ///
@@ -2419,15 +2412,13 @@ mod table {
         }
     }
     mod ty {
-        //! The types of tables: whether indices have 64 bits, the type of the elements, limits in elements,
-        //! and subtypes.
+        //! The types of tables: whether indices have 64 bits, the elements' type and limits, and subtypes.
 
         use crate::proved::meter::TableError;
         use crate::proved::store::memory::is_no_looser;
         use crate::proved::types::{IndexType, RefType};
 
-        /// The type of a table: its index type, the type of its elements, and its minimum and optional
-        /// maximum in elements.
+        /// The type of a table: its index and element types, minimum and optional maximum in elements.
         ///
         /// Core specification, table types. Upstream: `wasmi_core::TableType`.
         ///
@@ -2437,13 +2428,8 @@ mod table {
         /// Value = TableTypeValue
         /// view = λ t. record
         ///     { index = t.index; element = t.element; minimum = t.minimum; maximum = t.maximum }
-        /// invariant = λ t. IsValid
-        ///     (record {
-        ///     index = t.index;
-        ///     element = t.element;
-        ///     minimum = t.minimum;
-        ///     maximum = t.maximum;
-        ///     })
+        /// invariant = λ t. IsValid (record
+        ///     { index = t.index; element = t.element; minimum = t.minimum; maximum = t.maximum })
         /// inverse = λ t. record
         ///     { index = t.index; element = t.element; minimum = t.minimum; maximum = t.maximum }
         /// ```
@@ -2747,11 +2733,7 @@ mod table {
     ///
     /// ```text
     /// Value = TableValue
-    /// view = λ t. record {
-    ///     ty = t.ty;
-    ///     elements = t.elements.items;
-    ///     reserved = t.reserved;
-    ///     }
+    /// view = λ t. record { ty = t.ty; elements = t.elements.items; reserved = t.reserved }
     /// invariant = λ t. IsSized t.ty (length t.elements.items)
     ///     × (t.reserved ≤ vec_capacity t.elements)
     /// ```
@@ -2875,8 +2857,7 @@ mod table {
             self.ty
         }
 
-        /// The type that it was made with, with the present size as its minimum: a subtype of that
-        /// type.
+        /// The type that it was made with, with the present size as its minimum: a subtype of it.
         ///
         /// # Contract
         ///
@@ -2912,8 +2893,7 @@ mod table {
         ///
         /// # Errors
         ///
-        /// [`ElementTypeMismatch`](crate::TableError::ElementTypeMismatch) if the reference is of another type, also in a growth by 0; then those
-        /// of `grow_raw`.
+        /// [`ElementTypeMismatch`](crate::TableError::ElementTypeMismatch) if the type differs, also in a growth by 0; then those of `grow_raw`.
         ///
         /// # Contract
         ///
@@ -3121,8 +3101,7 @@ mod table {
             self.set_raw(index, value.raw)
         }
 
-        /// Sets the element at an index. The type of the reference isn't tested: that is up to the
-        /// caller.
+        /// Sets the element at an index. The reference's type isn't tested: that is up to the caller.
         ///
         /// # Errors
         ///
@@ -3202,14 +3181,12 @@ mod table {
             init_elements(self.elements.as_mut_slice(), dst, items, src, len, fuel)
         }
 
-        /// Copies `len` elements of another table, from `src` on, over the elements of a table from
-        /// `dst` on.
+        /// Copies `len` elements of another table, from `src` on, over those of a table from `dst` on.
         ///
         /// # Errors
         ///
-        /// In the order of the tests: [`ElementTypeMismatch`](crate::TableError::ElementTypeMismatch) if the tables are of two types;
-        /// [`CopyOutOfBounds`](crate::TableError::CopyOutOfBounds) if a range ends past its table; [`OutOfFuel`](crate::TableError::OutOfFuel), which is tested also if no
-        /// element is copied.
+        /// In the order of the tests: [`ElementTypeMismatch`](crate::TableError::ElementTypeMismatch) if the types differ; [`CopyOutOfBounds`](crate::TableError::CopyOutOfBounds) if a
+        /// range ends past its table; [`OutOfFuel`](crate::TableError::OutOfFuel), which is tested also if no element is copied.
         ///
         /// # Contract
         ///
@@ -3262,8 +3239,7 @@ mod table {
             copy_items(elements, dst, items, src, len, outside, fuel)
         }
 
-        /// Copies `len` elements from `src` on over those from `dst` on. If the ranges overlap, the old
-        /// elements are copied.
+        /// Copies `len` elements from `src` on over those from `dst` on: the old ones if they overlap.
         ///
         /// # Errors
         ///

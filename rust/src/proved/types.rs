@@ -110,16 +110,14 @@ mod func_type {
             Self::read(&mut params, &mut results)
         }
 
-        /// Reads the parameters, then the results, each up to the first `None`, which is taken as the
-        /// end.
+        /// Reads the parameters, then the results, each up to the first `None`, which ends them.
         ///
         /// Of each it reads at most 1,001 items: more than 1,000 parameters are refused before any
         /// result is read, then more than 1,000 results. Memory is taken, and can be refused, only
         /// where there are more than 21 items. Of an iterator nothing is read after its end or after
         /// its item number 1,001, and the results are read only once the parameters have ended.
         ///
-        /// Own: `new` takes its iterators by value, so that its contract can't say what is left of
-        /// them.
+        /// Own: `new` takes its iterators by value, so its contract can't say what is left of them.
         ///
         /// # Contract
         ///

@@ -1,5 +1,4 @@
-//! The vector instructions of WebAssembly that widen, narrow, shift or test lanes, and the relaxed
-//! ones.
+//! WebAssembly's vector instructions that widen, narrow, shift or test lanes, and the relaxed ones.
 #[cfg(any(doc, test))]
 pub mod laws {
     //! Laws on lanes that are made of lanes of another width and on wrapped numbers, on tests of lanes
@@ -132,8 +131,7 @@ pub mod laws {
     #[inline]
     pub fn bits_of_lanes<A>() {}
 
-    /// A test of every lane holds exactly where it holds of each. `A` is the integer as which a lane is
-    /// read.
+    /// A test of every lane holds exactly where it holds of each. `A` is the integer a lane is read as.
     ///
     /// # Contract
     ///
@@ -152,7 +150,8 @@ pub mod laws {
     pub fn tests_of_lanes<A>() {}
 }
 pub mod simd {
-    //! The vector instructions that widen, narrow, shift or test lanes, and the relaxed ones.
+    //! The vector instructions that widen, narrow, shift or test lanes, the relaxed ones, and what
+    //! loads of parts of a vector make of a number.
     //!
     //! Each function is the instruction of its name: `i16x8_extend_low_i8x16_s` is
     //! `i16x8.extend_low_i8x16_s`, which makes 8 lanes of 16 bits of 16 lanes of 8 bits; lane 0 is the
@@ -162,9 +161,9 @@ pub mod simd {
     //! type takes its lanes at twice their width is in `wide`.
 
     mod wide {
-        //! Lanes at twice their width, as `core::simd` vectors. `ExtendedLane` takes those of half a vector
-        //! and makes their products, `PairedLane` takes every second one of a vector and makes their sums.
-        //! LLVM takes plain lanes out one by one.
+        //! Lanes at twice their width, and lanes read as signed ones, as `core::simd` vectors.
+        //! `ExtendedLane` takes those of half a vector and makes their products, `PairedLane` takes every
+        //! second one of a vector and makes their sums. LLVM takes plain lanes out one by one.
 
         use crate::proved::lanes::{SimdLane, bytes_of};
         use crate::proved::raw::V128;
@@ -1702,8 +1701,7 @@ pub mod simd {
         no_zero_in_word::<T>(low) & no_zero_in_word::<T>(high)
     }
 
-    // The lowest lane that is 0 borrows, and gets a highest bit; what a borrow makes of the lanes above
-    // doesn't matter.
+    // The lowest lane that is 0 borrows, and gets a highest bit; the lanes above don't matter then.
     /// # Contract
     ///
     /// ```text
@@ -1720,8 +1718,7 @@ pub mod simd {
         word.wrapping_sub(T::ONES) & !word & T::TOPS == 0
     }
 
-    // The highest bits of the lanes of 8 bits of a word: the product brings each of them to its place
-    // in the highest byte.
+    // The top bits of a word's lanes of 8 bits: the product brings each to its place in the top byte.
     /// # Contract
     ///
     /// ```text
@@ -1734,8 +1731,7 @@ pub mod simd {
         ((word & u8::TOPS).wrapping_mul(0x0002_0408_1020_4081) >> 56) as u32
     }
 
-    // The relaxed instructions. Where the standard leaves a choice, each gives what another instruction
-    // gives.
+    // The relaxed instructions. Where the standard leaves a choice, each gives what another one gives.
 
     /// As `i8x16_swizzle`: 0 where the index is above 15.
     ///

@@ -4,22 +4,17 @@ use Rattle.std.specs.Option.{option_map, option_and_then}
 use Rattle.std.specs.Result.{result_ok}
 use Rattle.wasmi_machine.specs.declared.calls.Call.{Call}
 use Rattle.wasmi_machine.specs.declared.calls.Call.TheVariants as call
-use Rattle.wasmi_c.specs.declared.machine.call_struct.CallStruct.{CallStruct}
+use Rattle.wasmi_c.specs.declared.{machine.call_struct.CallStruct.CallStruct, instruction.binary.Binary.Binary, instruction.load.Load.Load, instruction.store.Store.Store, instruction.unary.Unary.Unary}
 use Rattle.wasmi_c.specs.Types.{u32_of, val_type_of, if_flag, memory_type_of, reference_type_of, settings_of, table_type_of}
-use Rattle.wasmi_typed.specs.declared.global.Mutability.{Mutability}
+use Rattle.wasmi_typed.specs.declared.{global.Mutability.Mutability, typed_ref.TypedRawRef.TypedRawRef}
 use Rattle.wasmi_typed.specs.declared.global.Mutability.TheVariants.{Const, Var}
-use Rattle.wasmi_typed.specs.declared.typed_ref.TypedRawRef.{TypedRawRef}
 use Rattle.wasmi_store.specs.Memory.{MemoryTypeValue}
 use Rattle.wasmi_store.specs.Table.{TableTypeValue}
 use Rattle.wasmi_ops.specs.declared.vector.TheConstants.{TERNARIES}
 use Rattle.wasmi_c.specs.Instruction.{load_numbered, store_numbered, binary_numbered, op_numbered, extraction_of, lane_load_of, lane_store_of, replacement_of, lanes_of, unary_numbered}
-use Rattle.wasmi_c.specs.declared.instruction.binary.Binary.{Binary}
 use Rattle.wasmi_c.specs.declared.instruction.binary.Binary.TheVariants as binary
-use Rattle.wasmi_c.specs.declared.instruction.load.Load.{Load}
 use Rattle.wasmi_c.specs.declared.instruction.load.Load.TheVariants as load
-use Rattle.wasmi_c.specs.declared.instruction.store.Store.{Store}
 use Rattle.wasmi_c.specs.declared.instruction.store.Store.TheVariants as store
-use Rattle.wasmi_c.specs.declared.instruction.unary.Unary.{Unary}
 use Rattle.wasmi_c.specs.declared.instruction.unary.Unary.TheVariants as unary
 
 module _ (numbers : CallStruct) where

@@ -1,5 +1,6 @@
 -- What a call does to a machine with its limiter, what lines of calls do, what a machine has and reserves in all, the
--- loads, stores and instructions on two vectors that have a number, and what holds of all calls and runs.
+-- loads, stores and instructions on two vectors that have a number, and what holds of all calls and runs, also of
+-- quotas.
 use Rattle.std.specs.Prelude.{◌≡◌, ◌⊎◌, ◌≤◌, ◌<◌, ◌-◌, ℕ, List, length, map, Option, Some, None, MatchOption, Vec, ◌≢◌, ◌^◌, nat_lt, if◌then◌else◌, ◌++◌, ◌∷◌, []}
 use Rattle.std.specs.Global.{Global}
 use Rattle.std.specs.Option.{option_and_then, option_map}
@@ -14,10 +15,8 @@ use Rattle.wasmi_meter.specs.declared.fuel.FuelError.TheVariants.{FuelMeteringDi
 use Rattle.wasmi_meter.specs.declared.limiter.Kind.TheVariants.{Bytes, Elements}
 use Rattle.wasmi_machine.specs.State.{State, live_at, total, with_reserved, World, world, Turn}
 use Rattle.wasmi_machine.specs.Steps.{RepliesWith, SomeCopy, IsRunOf, Run}
-use Rattle.wasmi_machine.specs.declared.calls.Call.{Call}
+use Rattle.wasmi_machine.specs.declared.{calls.Call.Call, calls.Reply.Reply, slots.SlotCounts.SlotCounts}
 use Rattle.wasmi_machine.specs.declared.calls.Call.TheVariants.{NewSegment}
-use Rattle.wasmi_machine.specs.declared.calls.Reply.{Reply}
-use Rattle.wasmi_machine.specs.declared.slots.SlotCounts.{SlotCounts}
 use Rattle.wasmi_budget.specs.Pool.{ReservesElements}
 use Rattle.wasmi_c.specs.Machine.CallStructs.{call_of}
 use Rattle.wasmi_c.specs.MemoryCalls.{memory_fuel_needed}
@@ -25,20 +24,11 @@ use Rattle.wasmi_c.specs.Machine.Caps.{MachineValue, StaysWithinCaps, Keeps}
 use Rattle.wasmi_c.specs.Machine.Replies.{only, with_number, memory_refusal, fuel_refusal, reply_struct, status_of}
 use Rattle.wasmi_c.specs.declared.status.TheConstants.{DONE, NO_CALL, NO_MACHINE, NO_ROOM, NO_SUCH, BAD_LINE, HEADER_LINE, TEXT_CUT, LENGTHS_DIFFER}
 use Rattle.wasmi_c.specs.Types.{reference_type_of}
-use Rattle.wasmi_c.specs.declared.machine.call_struct.CallStruct.{CallStruct}
-use Rattle.wasmi_c.specs.declared.machine.limits.Room.{Room}
-use Rattle.wasmi_c.specs.declared.machine.limits.Totals.{Totals}
-use Rattle.wasmi_c.specs.declared.machine.reply_struct.ReplyStruct.{ReplyStruct}
-use Rattle.wasmi_ops.specs.declared.load_store.LoadOp.{LoadOp}
-use Rattle.wasmi_ops.specs.declared.load_store.StoreOp.{StoreOp}
-use Rattle.wasmi_ops.specs.declared.vector.BinaryOp.{BinaryOp}
+use Rattle.wasmi_c.specs.declared.{machine.call_struct.CallStruct.CallStruct, machine.limits.Room.Room, machine.limits.Totals.Totals, machine.reply_struct.ReplyStruct.ReplyStruct, instruction.binary.Binary.Binary, instruction.load.Load.Load, instruction.store.Store.Store}
+use Rattle.wasmi_ops.specs.declared.{load_store.LoadOp.LoadOp, load_store.StoreOp.StoreOp, vector.BinaryOp.BinaryOp}
 use Rattle.wasmi_c.specs.Instruction.{load_numbered, store_numbered, binary_numbered}
-use Rattle.wasmi_c.specs.declared.instruction.binary.Binary.{Binary}
-use Rattle.wasmi_c.specs.declared.instruction.load.Load.{Load}
-use Rattle.wasmi_c.specs.declared.instruction.store.Store.{Store}
-use Rattle.wasmi_grammar.specs.declared.header.Header.{Header}
+use Rattle.wasmi_grammar.specs.declared.{header.Header.Header, script.Script.Script}
 use Rattle.wasmi_grammar.specs.Lines.{WritesScript, calls_of, IsFirstBadLine}
-use Rattle.wasmi_grammar.specs.declared.script.Script.{Script}
 use Rattle.wasmi_script.specs.Printing.{FillsFront}
 use Rattle.wasmi_script.specs.Outcomes.{replies_text}
 use Rattle.wasmi_machine.specs.declared.calls.Call.TheVariants as calls
@@ -122,8 +112,7 @@ ReservesElementsByStatus table elements machine =
 -- it holds nothing afterwards
 abbrev pub ActsOnHeld : {R V : Type 0} → R → Option V → R → Option V → (V → V → Type 0) → Type 0
 ActsOnHeld refusal None result held' Acts = (result ≡ refusal) × (held' ≡ None)
-ActsOnHeld {V = V} refusal (Some value) result held' Acts =
-    (value' : V) × Acts value value' × (held' ≡ Some value')
+ActsOnHeld {V = V} refusal (Some value) result held' Acts = (value' : V) × Acts value value' × (held' ≡ Some value')
 
 -- what a call does to the machine of a handle: if there is one, it acts and gives a result, else that is the refusal;
 -- it stays within its caps
@@ -142,14 +131,12 @@ ReadsOut memory offset machine old reply new = MatchOption (live_at machine.memo
     (λ bytes. (reply ≡ only DONE) × (new ≡ bytes)))
 
 -- a machine replies to a call that takes the caller's list
-unfoldable pub RepliesToItems
-    : (Vec ℕ Global → Call) → List ℕ → MachineValue → ReplyStruct → MachineValue → Type 0
+unfoldable pub RepliesToItems : (Vec ℕ Global → Call) → List ℕ → MachineValue → ReplyStruct → MachineValue → Type 0
 RepliesToItems call items machine reply machine' =
     SomeCopy items (λ copy. RepliesInStruct (call copy) machine reply machine')
 
 -- a machine replies to a call that takes a copy of the caller's list; or memory for that is refused, and the machine is the same
-unfoldable pub RepliesToCopy
-    : (Vec ℕ Global → Call) → List ℕ → MachineValue → ReplyStruct → MachineValue → Type 0
+unfoldable pub RepliesToCopy : (Vec ℕ Global → Call) → List ℕ → MachineValue → ReplyStruct → MachineValue → Type 0
 RepliesToCopy call items machine reply machine' = ((reply ≡ only NO_ROOM) × (machine' ≡ machine))
     ⊎ RepliesToItems call items machine reply machine'
 
@@ -212,16 +199,16 @@ item_store_numbered number = option_and_then item_store_in (store_numbered numbe
 abbrev pub vector_binary_numbered : ℕ → Option BinaryOp
 vector_binary_numbered number = option_and_then vector_binary_in (binary_numbered number)
 
--- the load of an item that a number stands for, if there is one
+-- the load of an item that has a number, as a call, if there is one
 abbrev pub item_load : ℕ → ℕ → ℕ → ℕ → Option Call
 item_load number index ptr offset = option_map (λ op. calls.Load op index ptr offset) (item_load_numbered number)
 
--- the store of an item of up to 64 bits that a number stands for, if there is one
+-- the store of an item of up to 64 bits that has a number, as a call, if there is one
 abbrev pub item_store : ℕ → ℕ → ℕ → ℕ → ℕ → Option Call
 item_store number index ptr offset value =
     option_map (λ op. calls.Store op index ptr offset (raw_of value)) (item_store_numbered number)
 
--- the instruction on two vectors that a number stands for, if there is one
+-- the instruction on two vectors that has a number, as a call, if there is one
 abbrev pub vector_binary : ℕ → ℕ → ℕ → ℕ → Option Call
 vector_binary number dst a b = option_map (λ op. calls.Binary op dst a b) (vector_binary_numbered number)
 
@@ -235,8 +222,7 @@ word_after full word = word
 
 -- a machine replies to a call with a status and a word; where there is no call, the machine and the word stay
 unfoldable pub RepliesInWord : Option Call → ℕ → MachineValue → ℕ × ℕ → MachineValue → Type 0
-RepliesInWord called word machine left machine' = MatchOption called
-    ((left ≡ (NO_CALL, word)) × (machine' ≡ machine))
+RepliesInWord called word machine left machine' = MatchOption called ((left ≡ (NO_CALL, word)) × (machine' ≡ machine))
     (λ one. (full : Reply) × MachineReplies one machine full machine' × (left ≡ (status_of full, word_after full word)))
 
 -- a machine replies to a call with a status; where there is no call, the machine stays
@@ -245,8 +231,7 @@ RepliesInStatus called machine status machine' = MatchOption called
     ((status ≡ NO_CALL) × (machine' ≡ machine))
     (λ one. (full : Reply) × MachineReplies one machine full machine' × (status ≡ status_of full))
 
--- the reply to lines of calls, which has the length of the text of their replies, or says that the text has
--- 2 ^ 64 - 1 bytes or more
+-- the reply to lines of calls: the length of the text of their replies, or that it has 2 ^ 64 - 1 bytes or more
 abbrev pub length_reply : ℕ → ReplyStruct
 length_reply count = if nat_lt count (2 ^ 64 - 1)
     then with_number DONE count
@@ -263,7 +248,7 @@ abbrev pub MachineRuns : List Call → MachineValue → List Reply → MachineVa
 MachineRuns calls machine replies machine' =
     IsRunOf (optional_rules any_limiter_rules) calls (world_of machine) replies (world_of machine')
 
--- no header line
+-- the header of lines of calls: no header line
 abbrev pub no_header : Header
 no_header = record { meter = None; limiter_line = None; region = None; reserve = None }
 
@@ -275,8 +260,7 @@ pub record RunsScriptBy (Runs : List Call → List Reply → Type 0) (script : S
   pub run : Runs (calls_of script) replies
   pub text : WritesOut (replies_text (calls_of script) replies) old reply new
 
--- Lines that aren't run have a first bad line, or are a script with header lines, or memory is refused for their calls
--- or replies.
+-- Lines that aren't run: one is the first bad one, or they have header lines, or memory for them or replies is refused.
 abbrev pub RefusesLines : List ℕ → ReplyStruct → Type 0
 RefusesLines lines reply = ((number : ℕ) × IsFirstBadLine lines number × (reply ≡ with_number BAD_LINE number))
     ⊎ ((script : Script) × WritesScript lines script × (script.header ≢ no_header) × (reply ≡ only HEADER_LINE))
@@ -311,10 +295,3 @@ ListsAreRuns = (numbers : List CallStruct) (calls : List Call) (machine : Machin
     (machine' : MachineValue) → map call_of numbers ≡ map Some calls
     → InTurn RepliesToStruct numbers machine told machine'
     → (replies : List Reply) × MachineRuns calls machine replies machine' × (told ≡ map reply_struct replies)
-
--- a machine replies to two calls with numbers, which are those of the replies of one run of both
-abbrev pub RunsBoth : Call → Call → MachineValue → ReplyStruct × ReplyStruct → Option MachineValue
-    → Type 0
-RunsBoth call call' machine replies held' = (reply : Reply) × (reply' : Reply) × (machine' : MachineValue)
-    × MachineRuns (call ∷ call' ∷ []) machine (reply ∷ reply' ∷ []) machine'
-    × (replies ≡ (reply_struct reply, reply_struct reply')) × (held' ≡ Some machine')

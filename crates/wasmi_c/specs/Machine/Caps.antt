@@ -2,9 +2,7 @@
 use Rattle.std.specs.Prelude.{◌≡◌, ◌≤◌, ⊤, Option, Some, None, IfSome}
 use Rattle.wasmi_meter.specs.AnyLimiter.{caps_of, quota_of}
 use Rattle.wasmi_meter.specs.Capped.{cap_of, holdings, IsWithinCaps}
-use Rattle.wasmi_meter.specs.declared.any_limiter.AnyLimiter.{AnyLimiter}
-use Rattle.wasmi_meter.specs.declared.limiter.Kind.{Kind}
-use Rattle.wasmi_meter.specs.declared.quota.Quota.{Quota}
+use Rattle.wasmi_meter.specs.declared.{any_limiter.AnyLimiter.AnyLimiter, limiter.Kind.Kind, quota.Quota.Quota}
 use Rattle.wasmi_machine.specs.State.{State, total, HoldsTotals}
 
 -- a machine, and the limiter that it asks

@@ -3,11 +3,9 @@ use Rattle.std.specs.Prelude.{◌≡◌, ◌≢◌, ◌⊎◌, ℕ, All, List, m
 use Rattle.wasmi_meter.specs.Capped.{nothing, holdings, cap_of}
 use Rattle.wasmi_meter.specs.AnswerList.{new_answers}
 use Rattle.wasmi_meter.specs.Meter.{Meter}
-use Rattle.wasmi_meter.specs.declared.answer_list.LimiterAnswer.{LimiterAnswer}
-use Rattle.wasmi_meter.specs.declared.any_limiter.AnyLimiter.{AnyLimiter}
+use Rattle.wasmi_meter.specs.declared.{answer_list.LimiterAnswer.LimiterAnswer, any_limiter.AnyLimiter.AnyLimiter, quota.Quota.Quota}
 use Rattle.wasmi_meter.specs.declared.any_limiter.AnyLimiter.TheVariants as limiter
 use Rattle.wasmi_meter.specs.declared.limiter.Kind.TheVariants.{Bytes, Elements}
-use Rattle.wasmi_meter.specs.declared.quota.Quota.{Quota}
 use Rattle.wasmi_machine.specs.State.{new_state}
 use Rattle.wasmi_c.specs.Machine.Caps.{MachineValue}
 use Rattle.wasmi_c.specs.declared.status.TheConstants.{DONE, HAS_MACHINE, NO_ANSWER, NO_ROOM}
@@ -51,14 +49,12 @@ pub record IsNewMachine (limits : Limits) (machine : MachineValue) : Type 0 wher
   pub limiter : IsNewLimiter limits machine.limiter
 
 -- a machine with nothing on it, and with these answers, of which none was taken
-pub record IsNewWithAnswers (limits : Limits) (answers : List LimiterAnswer) (machine : MachineValue)
-    : Type 0 where
+pub record IsNewWithAnswers (limits : Limits) (answers : List LimiterAnswer) (machine : MachineValue) : Type 0 where
   pub state : machine.state ≡ new_state (meter_with limits)
   pub limiter : machine.limiter ≡ limiter.Answers (new_answers answers)
 
 -- a machine that is so is made where there is none; where there is one, or memory is refused, nothing has changed
-abbrev pub MakesMachine : (MachineValue → Type 0) → Option MachineValue → ℕ → Option MachineValue
-    → Type 0
+abbrev pub MakesMachine : (MachineValue → Type 0) → Option MachineValue → ℕ → Option MachineValue → Type 0
 MakesMachine IsNew (Some machine) status held' = (status ≡ HAS_MACHINE) × (held' ≡ Some machine)
 MakesMachine IsNew None status held' = ((status ≡ NO_ROOM) × (held' ≡ None))
     ⊎ ((machine : MachineValue) × IsNew machine × (status ≡ DONE) × (held' ≡ Some machine))
@@ -66,8 +62,7 @@ MakesMachine IsNew None status held' = ((status ≡ NO_ROOM) × (held' ≡ None)
 -- a machine with a list of answers is made where there is none; where there is one, a number stands for no answer, or
 -- memory is refused, nothing has changed
 abbrev pub MakesWithAnswers : Limits → List ℕ → Option MachineValue → ℕ → Option MachineValue → Type 0
-MakesWithAnswers limits numbers (Some machine) status held' =
-    (status ≡ HAS_MACHINE) × (held' ≡ Some machine)
+MakesWithAnswers limits numbers (Some machine) status held' = (status ≡ HAS_MACHINE) × (held' ≡ Some machine)
 MakesWithAnswers limits numbers None status held' =
     (¬ All IsAnswer numbers × (status ≡ NO_ANSWER) × (held' ≡ None))
     ⊎ (All IsAnswer numbers × MakesMachine (IsNewWithAnswers limits (map answer_of numbers)) None status held')

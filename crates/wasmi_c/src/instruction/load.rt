@@ -74,8 +74,7 @@ fn load_by_op(op: Load, memory: &[u8], ptr: u64, offset: u64) -> Result<RawVal, 
     }
 }
 
-/// Writes what the load of a number gives from each pointer of an array plus the offset, or its
-/// trap.
+/// Writes what a number's load gives from each pointer of an array plus the offset, or its trap.
 pub fn load_each(
     number: u16,
     memory: &[u8],

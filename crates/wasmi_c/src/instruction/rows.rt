@@ -49,9 +49,8 @@ macro_rules! op_once {
     };
 }
 
-/// A call for each digit in base 16, which is a constant of the function that is called. The code
-/// of a number is found by two digits: one match over all numbers would be proved at several times
-/// the cost.
+/// A call for each digit in base 16, a constant of the function that is called. The code of a
+/// number is found by two digits: one match over all would be proved at several times the cost.
 macro_rules! by_digit {
     ($digit:ident, $call:ident [$high:ident] $operands:tt) => {
         match $digit {

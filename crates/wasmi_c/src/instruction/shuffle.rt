@@ -18,8 +18,7 @@ pub fn lanes_of(indices: [u8; 16]) -> Option<[ImmLaneIdx32; 16]>
     Some(lanes)
 }
 
-/// Writes the bytes of two vectors that have these indices: those of `a` are 0 to 15, those of `b`
-/// 16 to 31.
+/// Writes the bytes of two vectors with these indices: those of `a` are 0 to 15, of `b` 16 to 31.
 pub fn shuffle(a: RawVal, b: RawVal, indices: [u8; 16], value: &mut RawVal) -> u8
     ensures { Leaves (shuffle_result a b indices) value.old value.new result }
 {

@@ -297,8 +297,7 @@ impl CallStruct {
         })
     }
 
-    /// An instruction of one register: one that makes a vector of an item, one on a vector, or a
-    /// test.
+    /// An instruction of one register: it makes a vector of an item, is on a vector, or is a test.
     fn unary_call(&self) -> Option<Call>
         ensures { result ≡ unary_call self.now }
     {

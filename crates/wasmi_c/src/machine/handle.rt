@@ -1,5 +1,6 @@
-//! What C holds: a machine with its limiter, or none. A call works on the machine where it is.
-//! `include/wasmi_machine.h` says which statuses calls return, in which order.
+//! What C holds: a machine with its limiter, or none. A call works on the machine where it is, and
+//! a handle, also of a pool, may go to another thread. `include/wasmi_machine.h` says which
+//! statuses calls return, in which order.
 ghost use Rattle.std.specs.Prelude.{◌≡◌, None, is_some};
 ghost use Rattle.wasmi_c.specs.Machine.Calls.{OnHeld, RepliesToStruct};
 ghost use Rattle.wasmi_c.specs.Machine.NewMachines.{IsNewMachine, MakesMachine, MakesWithAnswers};

@@ -1,5 +1,5 @@
-//! A machine with the limiter that it asks: its calls, its lists and lines of calls, and what these
-//! leave with the caller.
+//! A machine with the limiter that it asks: how it is made, its calls, reservations and totals, its
+//! lists and lines of calls, and what these leave with the caller.
 ghost use Rattle.std.specs.Prelude.{◌≡◌, Some, IfOk, MatchResult, OnErr};
 ghost use Rattle.wasmi_meter.specs.AnyLimiter.{caps_of};
 ghost use Rattle.wasmi_machine.specs.declared.calls.Call.TheVariants.{CopyMemory, FillMemory, GetFuel, GrowMemory, InitMemory, Load, NewData, NewSegment, Store, Write};
@@ -465,7 +465,7 @@ pub(crate) fn leave(reply: Reply, word: &mut u64) -> u8
     }
 }
 
-/// A copy of the references.
+/// A copy of the caller's references, for a segment.
 pub(crate) fn references(alloc: Global, items: &[u32]) -> Result<Vec<RawRef>, AllocError>
     ensures { IfOk result (λ copy. copy.items ≡ items.now) }
 {

@@ -1,5 +1,5 @@
-//! What a machine is made with, the answers of its limiter among it, what is reserved on it, and
-//! what it has.
+//! The structs of plain numbers of what a machine is made with, the answers of its limiter among
+//! it, of what is reserved on it, and of what it has.
 ghost use Rattle.std.specs.Prelude.{◌≡◌, IfOk, map};
 ghost use Rattle.wasmi_c.specs.Machine.Calls.{slots_of, totals_in};
 ghost use Rattle.wasmi_c.specs.Machine.NewMachines.{IsNewLimiter, meter_with, answer_of};

@@ -1,5 +1,4 @@
-//! Where the machine of a handle lies on the heap: a box that C sees, put together, taken apart and
-//! lent.
+//! Where the machine of a handle lies on the heap: a box that C sees, made, taken apart and lent.
 ghost use Rattle.std.specs.Coded.{coded_option};
 ghost use Rattle.std.specs.Prelude.{◌≡◌, Option, IsSome};
 ghost use Rattle.wasmi_c.specs.HeldBox.{box_or_none_owns, global_token, machine_row};

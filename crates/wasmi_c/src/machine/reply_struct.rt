@@ -137,7 +137,7 @@ impl ReplyStruct {
     }
 }
 
-/// The number of a reference type among the value types.
+/// The number that a reply has for a reference type, among those of the value types.
 fn reference_number(ty: RefType) -> u8
     ensures { result ≡ reference_number ty }
 {

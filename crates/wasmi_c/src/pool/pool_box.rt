@@ -1,5 +1,4 @@
-//! Where the pool of a handle lies on the heap: a box that C sees, put together, taken apart and
-//! lent.
+//! Where the pool of a handle lies on the heap: a box that C sees, made, taken apart and lent.
 ghost use Rattle.std.specs.Coded.{coded_option};
 ghost use Rattle.std.specs.Prelude.{◌≡◌, Option, IsSome};
 ghost use Rattle.wasmi_budget.specs.Pool.{PoolValue};

@@ -1,5 +1,4 @@
-//! Comparisons of lanes by their order, and the smaller or larger ones of lanes, on vectors of
-//! `std::simd`.
+//! Comparisons of lanes by order, and the smaller or larger of lanes, on vectors of `std::simd`.
 //!
 //! Lanes that are read signed are moved by half of their range, and then compared as unsigned ones.
 

@@ -96,8 +96,7 @@ pub(super) fn different<T: WordLane>(lhs: V128, rhs: V128) -> V128
 
 // The vector of two words of which each lane is 0 or its highest bit alone, those with the bit
 // filled with ones: twice the bit, which is the bit above the lane, less the lane's lowest. Of
-// plain words LLVM would take two vectors a turn of a loop, and regroup their words before and
-// after.
+// plain words LLVM would take two vectors a turn of a loop, and regroup words before and after.
 #[inline(always)]
 fn filled<T: WordLane>(low: u64, high: u64) -> V128
     requires low { AreMarks T.width low }
@@ -124,8 +123,7 @@ pub(super) fn averages<T: WordLane>(lhs: V128, rhs: V128) -> V128
     )
 }
 
-// The averages on one word: common bits and half of the others, which never borrow from the lane
-// below.
+// The averages on a word: common bits and half the others, which never borrow from the lane below.
 #[tactic(auto, using(crate::proofs::AverageLemmas::averages))]
 #[inline(always)]
 fn word_averages(a: u64, b: u64, tops: u64) -> u64

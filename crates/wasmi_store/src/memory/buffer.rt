@@ -1,5 +1,4 @@
-//! The bytes of a linear memory: its own, or the front of a borrowed region; how they are lent and
-//! grow.
+//! A linear memory's bytes: its own, or the front of a borrowed region; how they are lent and grow.
 ghost use Rattle.std.specs.Prelude.{◌≡◌, ◌≤◌, ◌<◌, ℕ, List, length, take, drop, IfOk, IfErr, ◌-◌, OnOk, OnErr, true, false};
 ghost use Rattle.std.proofs.Common.{refl};
 ghost use Rattle.std.specs.Borrow.{sem, Lends, Array, u8};
@@ -142,8 +141,7 @@ impl<R: Region> Buffer<R> {
         self.len
     }
 
-    /// Whether there is room for `new_size` bytes. It is false only for a borrowed buffer that is
-    /// shorter.
+    /// Whether there is room for `new_size` bytes. It is false only for a shorter borrowed buffer.
     pub fn has_room(&self, new_size: usize) -> bool
         ensures { result ≡ fits_room self.now.room (new_size - length self.now.bytes) }
     {

@@ -43,8 +43,7 @@ impl PageSize {
     }
 }
 
-/// The type of a linear memory: its address type, its page size, and its minimum and optional
-/// maximum in pages.
+/// The type of a linear memory: its address type, page size, minimum and optional maximum in pages.
 ///
 /// Core specification, memory types. Upstream: `wasmi_core::MemoryType`.
 #[derive(Clone, Copy, Debug, PartialEq, Eq)]

@@ -1,5 +1,4 @@
-//! The types of tables: whether indices have 64 bits, the type of the elements, limits in elements,
-//! and subtypes.
+//! The types of tables: whether indices have 64 bits, the elements' type and limits, and subtypes.
 ghost use Rattle.std.specs.Prelude.{◌≡◌, ◌≤◌, ◌+◌, ◌-◌, ◌^◌, ◌↔◌, IfSome, IsTrue, true, false, MatchOption, MatchResult};
 ghost use Rattle.wasmi_types.specs.Value.{address_bits};
 ghost use Rattle.wasmi_store.specs.Table.{IsSubtype, IsValid, is_indexable, is_within_maximum, same_type};
@@ -10,8 +9,7 @@ use std::marker::Model;
 use wasmi_meter::TableError;
 use wasmi_types::{IndexType, RefType};
 
-/// The type of a table: its index type, the type of its elements, and its minimum and optional
-/// maximum in elements.
+/// The type of a table: its index and element types, minimum and optional maximum in elements.
 ///
 /// Core specification, table types. Upstream: `wasmi_core::TableType`.
 #[derive(Clone, Copy, Debug, PartialEq, Eq)]
@@ -30,13 +28,8 @@ impl Model for TableType {
     ghost view = { λ t. record
         { index = t.index; element = t.element; minimum = t.minimum; maximum = t.maximum } };
 
-    ghost invariant = { λ t. IsValid
-        (record {
-          index = t.index;
-          element = t.element;
-          minimum = t.minimum;
-          maximum = t.maximum;
-        }) };
+    ghost invariant = { λ t. IsValid (record
+        { index = t.index; element = t.element; minimum = t.minimum; maximum = t.maximum }) };
 
     ghost inverse = { λ t. record
         { index = t.index; element = t.element; minimum = t.minimum; maximum = t.maximum } };

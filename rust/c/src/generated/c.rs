@@ -89,7 +89,7 @@ pub mod fuel {
 }
 pub use crate::by_hand::held_box;
 pub mod host {
-    //! A limiter of the host's own: what a growth asks it, and what it answered.
+    //! A limiter of the host's own: the structs of a question to it and of its answers.
 
     use crate::proved::meter::{Kind, LimiterByKind, LimiterError};
 
@@ -733,8 +733,7 @@ pub mod instruction {
             }
         }
 
-        /// Writes what the load of a number gives from each pointer of an array plus the offset, or its
-        /// trap.
+        /// Writes what a number's load gives from each pointer of an array plus the offset, or its trap.
         ///
         /// # Contract
         ///
@@ -1082,9 +1081,8 @@ pub mod instruction {
     };
 }
 
-        /// A call for each digit in base 16, which is a constant of the function that is called. The code
-        /// of a number is found by two digits: one match over all numbers would be proved at several times
-        /// the cost.
+        /// A call for each digit in base 16, a constant of the function that is called. The code of a
+        /// number is found by two digits: one match over all would be proved at several times the cost.
         macro_rules! by_digit {
     ($digit:ident, $call:ident [$high:ident] $operands:tt) => {
         match $digit {
@@ -1139,8 +1137,7 @@ pub mod instruction {
             Some(lanes)
         }
 
-        /// Writes the bytes of two vectors that have these indices: those of `a` are 0 to 15, those of `b`
-        /// 16 to 31.
+        /// Writes the bytes of two vectors with these indices: those of `a` are 0 to 15, of `b` 16 to 31.
         ///
         /// # Contract
         ///
@@ -1805,8 +1802,7 @@ pub mod machine {
                 })
             }
 
-            /// An instruction of one register: one that makes a vector of an item, one on a vector, or a
-            /// test.
+            /// An instruction of one register: it makes a vector of an item, is on a vector, or is a test.
             ///
             /// # Contract
             ///
@@ -1985,8 +1981,9 @@ pub mod machine {
         }
     }
     pub mod handle {
-        //! What C holds: a machine with its limiter, or none. A call works on the machine where it is.
-        //! `include/wasmi_machine.h` says which statuses calls return, in which order.
+        //! What C holds: a machine with its limiter, or none. A call works on the machine where it is, and
+        //! a handle, also of a pool, may go to another thread. `include/wasmi_machine.h` says which
+        //! statuses calls return, in which order.
 
         use crate::generated::c::held_box::HeldBox;
         use crate::generated::c::machine::call_struct::CallStruct;
@@ -2156,8 +2153,8 @@ pub mod machine {
         fn may_move<T: Send>() {}
     }
     pub mod limited_machine {
-        //! A machine with the limiter that it asks: its calls, its lists and lines of calls, and what these
-        //! leave with the caller.
+        //! A machine with the limiter that it asks: how it is made, its calls, reservations and totals, its
+        //! lists and lines of calls, and what these leave with the caller.
 
         use crate::generated::c::machine::call_struct::{
             BINARY, CallStruct, LOAD, STORE, item_load_numbered, item_store_numbered,
@@ -2745,7 +2742,7 @@ pub mod machine {
             }
         }
 
-        /// A copy of the references.
+        /// A copy of the caller's references, for a segment.
         ///
         /// # Contract
         ///
@@ -2834,8 +2831,8 @@ pub mod machine {
         }
     }
     pub mod limits {
-        //! What a machine is made with, the answers of its limiter among it, what is reserved on it, and
-        //! what it has.
+        //! The structs of plain numbers of what a machine is made with, the answers of its limiter among
+        //! it, of what is reserved on it, and of what it has.
 
         use crate::generated::c::types::{if_flag, meter};
         use crate::proved::machine::SlotCounts;
@@ -3182,7 +3179,7 @@ pub mod machine {
             }
         }
 
-        /// The number of a reference type among the value types.
+        /// The number that a reply has for a reference type, among those of the value types.
         ///
         /// # Contract
         ///
@@ -3199,8 +3196,8 @@ pub mod machine {
     }
 }
 pub mod memory {
-    //! How a memory whose bytes are the first of a region that lies with C is made, grows, is read and is
-    //! written. `number` is set to the fuel that is needed where less is left.
+    //! How a memory whose bytes are the first of a region that lies with C is made, grows, is read and
+    //! written, and what a growth of it asks. `number` is set to the fuel needed where less is left.
 
     use crate::generated::c::host::{HostAnswers, Question};
     use crate::generated::c::numbers::{
@@ -3297,8 +3294,7 @@ pub mod memory {
         }
     }
 
-    /// Makes a memory of this type under a limiter in zeros, as [`memory::make_zeroed`](crate::proved::region::memory::make_zeroed)
-    /// does.
+    /// Makes a memory of this type under a limiter in zeros, as [`memory::make_zeroed`](crate::proved::region::memory::make_zeroed).
     ///
     /// # Contract
     ///
@@ -3710,8 +3706,7 @@ pub mod memory {
     }
 }
 pub mod numbers {
-    //! The plain numbers of memories, tables, meters, quotas and ranges that lie with C. They may be
-    //! any.
+    //! The plain numbers of memories, tables, meters, quotas and ranges that lie with C: any numbers.
 
     use crate::generated::c::types;
     use crate::proved::meter::{
@@ -4056,7 +4051,8 @@ pub mod numbers {
 }
 pub mod pool {
     //! A pool of machines under common caps that C holds by a handle, or none. A call works on the pool
-    //! where it is. `include/wasmi_machine.h` says which statuses calls return, in which order.
+    //! where it is; loads, sizes and fuel are replies of a tenant's machine alone.
+    //! `include/wasmi_machine.h` says which statuses calls return, in which order.
 
     pub use crate::by_hand::pool_box;
     use crate::rattle::Vec;
@@ -4217,8 +4213,7 @@ pub mod pool {
             let _ = self.pool.len();
         }
 
-        /// Adds a machine with nothing on it, whose meter is that of the limits. Their caps aren't
-        /// read.
+        /// Adds a machine with nothing on it and the meter of the limits, whose caps aren't read.
         ///
         /// # Contract
         ///
@@ -4472,8 +4467,7 @@ pub mod pool {
             self.load_searched(tenant, number, memory, ptr, offset, value)
         }
 
-        /// `load` where a search finds the tenant. It is apart, so that `load` keeps no registers for the
-        /// search.
+        /// `load` where a search finds the tenant: apart, so that `load` keeps no registers for it.
         ///
         /// # Contract
         ///
@@ -4563,8 +4557,7 @@ pub mod pool {
             self.store_searched(tenant, number, memory, ptr, offset, value)
         }
 
-        /// `store` where a search finds the tenant. It is apart, so that `store` keeps no registers for the
-        /// search.
+        /// `store` where a search finds the tenant: apart, so that `store` keeps no registers for it.
         ///
         /// # Contract
         ///
@@ -4880,8 +4873,7 @@ pub mod pool {
             }
         }
 
-        /// Runs lines of calls on the machine of a tenant, and writes their replies to the front of a
-        /// text.
+        /// Runs lines of calls on a tenant's machine, and writes their replies to the front of a text.
         ///
         /// # Contract
         ///
@@ -4956,8 +4948,7 @@ pub mod pool {
         }
     }
 
-    /// The reply of a tenant's machine to the question for the fuel that is left, which reaches no
-    /// limiter.
+    /// The reply of a tenant's machine to the question for the fuel left, which reaches no limiter.
     ///
     /// # Contract
     ///
@@ -5232,7 +5223,8 @@ pub mod status {
 }
 pub mod table {
     //! How a table whose elements are the first of a region of references that lies with C is made,
-    //! grows, is read and is written. `number` is set to the fuel that is needed where less is left.
+    //! grows, is read and is written, and what a growth of it asks. `number` is set to the fuel that is
+    //! needed where less is left.
 
     use crate::generated::c::host::{HostAnswers, Question};
     use crate::generated::c::numbers::{
@@ -5653,7 +5645,8 @@ pub mod table {
     }
 }
 pub mod types {
-    //! The types and meters that plain numbers stand for, and numbers that a flag says are there.
+    //! The types and meters that plain numbers stand for, and numbers that fit 32 bits or that a flag
+    //! says are there.
 
     use crate::proved::meter::{CustomFuelCosts, Fuel, FuelCostsProvider};
     use crate::proved::store::{MemoryType, TableType};

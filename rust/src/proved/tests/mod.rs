@@ -431,13 +431,12 @@ mod machine {
             let calls = [Call::NewMemory(memory_type(1, 16)), Call::DropMemory(0)];
             runs_to(&mut used, &calls, &[Reply::Made(0), Reply::Done]);
             let mut pool = Pool::new(131072, 0);
-            match pool.add(used) {
-                Ok(index) => same("an index", Some(index), None),
-                Err((error, back)) => {
-                    same("the refusal", error, AddError::NotEmpty);
-                    same("its bytes", back.total_bytes(), 65536);
-                }
-            }
+            let refused = match pool.add(used) {
+                Ok(index) => Err(index),
+                Err((error, back)) => Ok((error, back.total_bytes())),
+            };
+            let expected = Ok((AddError::NotEmpty, 65536));
+            same("the refusal, its bytes", refused, expected);
         }
     }
     mod regions {

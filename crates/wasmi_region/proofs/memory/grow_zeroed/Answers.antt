@@ -1,19 +1,14 @@
-use Rattle.std.proofs.Common.{inl, ◌∙◌, ap, Ok, false, refl, sym, arith}
-use Rattle.wasmi_region.proofs.Common.{cond-false, err_from_is_err_and, optional_rules, growing, grows_unasked, grows_met, memory_growth, growth_permitted}
+use Rattle.std.proofs.Common.{◌∙◌, ap, Ok, false, refl, sym, arith, length, drop}
+use Rattle.wasmi_region.proofs.Common.{cond-false, err_from_is_err_and, optional_rules, growing, grows_none, grows_unasked, grows_met, memory_growth, growth_permitted}
 use Rattle.wasmi_region.specs.Memory.{memory_in}
 use Rattle.wasmi_region.proofs.MemoryLemmas.{zeroed_none, paged, bounds, asked_in, room_is, grown}
 use Rattle.wasmi_region.proofs.memory.grow_zeroed.Goals as goal
 
 pub returns-then-additional-eq0-clause-grown : goal.returns-then-additional-eq0-clause-grown
-returns-then-additional-eq0-clause-grown g c = rw (zeroed_none c.args.region.now c.args.size.now) (
-  0,
-  inl record {
-    none = c.if-additional-eq0.true;
-    answered = ap Ok (c.pages_in-old_pages.ensures ∙ sym (paged c.args.ty _ _ c.requires.within c.args.additional));
-    uncharged = refl;
-    same = refl;
-  },
-)
+returns-then-additional-eq0-clause-grown g c = rw (zeroed_none c.args.region.now c.args.size.now)
+    (grows_none (optional_rules g.L.ResourceLimiter.rules)
+    (memory_growth c.args.additional (memory_in c.args.ty c.args.region.now c.args.size.now)) _
+    c.if-additional-eq0.true (ap Ok (c.pages_in-old_pages.ensures ∙ sym (paged c.args.ty _ _ c.requires.within c.args.additional))))
 
 pub returns-in_default-clause-grown : goal.returns-in_default-clause-grown
 returns-in_default-clause-grown g c = rw (zeroed_none c.args.region.now c.args.size.now) (
@@ -42,3 +37,29 @@ returns-clause-grown g c =
     (fits ∙ c.in_ok-decide_growth.ensures.room) c.decide_growth.new.fuel c.in_ok-decide_growth.ensures.paid _
     (grown c.args.ty _ _ c.requires.within _ found _ refl) _
     (c.pages_in-old_pages.ensures ∙ sym (paged c.args.ty _ _ c.requires.within c.args.additional))
+
+pub returns-then-additional-eq0-clause-len : goal.returns-then-additional-eq0-clause-len
+returns-then-additional-eq0-clause-len g c = ap length (zeroed_none c.args.region.now c.args.size.now)
+
+pub returns-then-additional-eq0-clause-rest : goal.returns-then-additional-eq0-clause-rest
+returns-then-additional-eq0-clause-rest g c = ap (drop c.args.size.now) (zeroed_none c.args.region.now c.args.size.now)
+
+pub returns-in_default-clause-len : goal.returns-in_default-clause-len
+returns-in_default-clause-len g c = ap length (zeroed_none c.args.region.now c.args.size.now)
+
+pub returns-in_default-clause-rest : goal.returns-in_default-clause-rest
+returns-in_default-clause-rest g c = ap (drop c.args.size.now) (zeroed_none c.args.region.now c.args.size.now)
+
+pub returns-in_default-clause-refused : goal.returns-in_default-clause-refused
+returns-in_default-clause-refused g c = zeroed_none c.args.region.now c.args.size.now
+
+pub returns-in_err-decide_growth-clause-len : goal.returns-in_err-decide_growth-clause-len
+returns-in_err-decide_growth-clause-len g c = ap length (zeroed_none c.args.region.now c.args.size.now)
+
+pub returns-in_err-decide_growth-clause-rest : goal.returns-in_err-decide_growth-clause-rest
+returns-in_err-decide_growth-clause-rest g c = ap (drop c.args.size.now) (zeroed_none c.args.region.now c.args.size.now)
+
+pub returns-in_err-decide_growth-clause-refused : goal.returns-in_err-decide_growth-clause-refused
+returns-in_err-decide_growth-clause-refused g c =
+    rw ((err_from_is_err_and c.from_residual.result c.from_residual.ensures.1).1)
+    (zeroed_none c.args.region.now c.args.size.now)

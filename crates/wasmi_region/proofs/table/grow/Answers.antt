@@ -1,5 +1,6 @@
-use Rattle.std.proofs.Common.{Option, refl, sym}
-use Rattle.wasmi_region.proofs.Common.{cond-false, err_from_is_err_and, optional_rules, lent_limiter, grows_unasked, grows_denied, grows_late, grows_unpaid, grows_refused, grows_met}
+use Rattle.std.proofs.Common.{Option, arith, refl, sym}
+use Rattle.wasmi_region.proofs.Common.{cond-false, err_from_is_err_and, optional_rules, lent_limiter, loan_kept, grows_unasked, grows_denied, grows_late, grows_unpaid, grows_refused, grows_met}
+use Rattle.wasmi_region.proofs.MemoryLemmas.{filled_part}
 use Rattle.wasmi_region.proofs.TableLemmas as table
 use Rattle.wasmi_region.proofs.table.grow.Given as given
 use Rattle.wasmi_region.proofs.table.grow.Goals as goal
@@ -61,3 +62,20 @@ returns-clause-grown g c =
     c.table_growing-answer.ensures.asked in
     grows_met is (sym c.if-not-allows_size.ensures) _ c.in_default-charge.ensures _
     (table.grown t _ c.in-Some.ensures.1 _ c.fill_range.ensures.filled) _ (table.sized t)
+
+pub returns-then-not-allows_size-clause-loan : goal.returns-then-not-allows_size-clause-loan
+returns-then-not-allows_size-clause-loan g c = loan_kept _ _ _ c.table_growing-answer.ensures.loan c.tell.ensures.loan
+
+pub returns-in-Err-clause-loan : goal.returns-in-Err-clause-loan
+returns-in-Err-clause-loan g c = loan_kept _ _ _ c.table_growing-answer.ensures.loan c.tell-in-Err.ensures.loan
+
+pub returns-then-region-desired-clause-loan : goal.returns-then-region-desired-clause-loan
+returns-then-region-desired-clause-loan g c =
+    loan_kept _ _ _ c.table_growing-answer.ensures.loan c.tell-then-region-desired.ensures.loan
+
+pub returns-clause-within : goal.returns-clause-within
+returns-clause-within g c = omega (arith, c.if-region-desired.false, c.fill_range.ensures.len)
+
+pub returns-clause-rest : goal.returns-clause-rest
+returns-clause-rest g c = (filled_part c.args.region.now _ c.args.size.now _ _ (omega (arith, c.in-Some.ensures.1))
+    c.requires.within c.fill_range.ensures.filled).1

@@ -1,10 +1,14 @@
-use Rattle.std.proofs.Common.{rules}
-use Rattle.std.proofs.lemmas.Result.{on_err_weaker}
-use Rattle.wasmi_script.proofs.PrintingLemmas.{flushed}
+use Rattle.std.proofs.Common.{refl}
+use Rattle.wasmi_script.proofs.PrintingLemmas.{all_sent, front_sent, still}
 use Rattle.wasmi_script.proofs.printing.print_lines.Goals as goal
+
+pub returns-clause-ok : goal.returns-clause-ok
+returns-clause-ok g c = search (all_sent g.W.Write.contents)
+
+pub returns-clause-flushed : goal.returns-clause-flushed
+returns-clause-flushed g c = search (still g.W.Write.contents g.W.Output.is_flushed)
 
 pub returns-clause-front : goal.returns-clause-front
 returns-clause-front g c =
-    on_err_weaker c.flush-flushed.result (λ front. search (rules, front.sent))
-    (flushed g.W.Write.contents c.print_replies-printed.result c.flush-flushed.result _ _ _ _
-    c.print_replies-printed.ensures c.flush-flushed.ensures.sent)
+    front_sent g.W.Write.contents _ _ _ _ _ _ _ _ c.print_replies-printed.ensures c.flush-flushed.ensures.sent
+    c.new.ensures refl assumption

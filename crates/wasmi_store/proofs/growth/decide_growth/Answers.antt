@@ -1,6 +1,6 @@
 use Rattle.std.proofs.Common.{◌∙◌, arith}
 use Rattle.wasmi_store.proofs.Common.{err_from_is_err_and, optional_rules}
-use Rattle.wasmi_store.proofs.GrowthLemmas.{growing, grows_denied, grows_late, grows_unpaid}
+use Rattle.wasmi_store.proofs.GrowthLemmas.{loan_kept, growing, grows_denied, grows_late, grows_unpaid}
 use Rattle.wasmi_store.proofs.MemoryLemmas.{memory_growth, growth_permitted}
 use Rattle.wasmi_store.proofs.growth.decide_growth.Goals as goal
 
@@ -25,3 +25,9 @@ returns-in-Err-clause-refused g c = λ x pages some asked fits.
     (λ none. omega (arith, some, none)) asked c.in_ok-permission.ensures c.memory_growing-answer.ensures.asked in
     grows_unpaid permits
     (fits ∙ c.if-not-has_room.false) c.charge-paid.new.fuel _ c.in-Err.ensures _ _ c.tell-in-Err.ensures.told
+
+pub returns-then-not-has_room-clause-loan : goal.returns-then-not-has_room-clause-loan
+returns-then-not-has_room-clause-loan g c = loan_kept _ _ _ c.memory_growing-answer.ensures.loan c.tell.ensures.loan
+
+pub returns-in-Err-clause-loan : goal.returns-in-Err-clause-loan
+returns-in-Err-clause-loan g c = loan_kept _ _ _ c.memory_growing-answer.ensures.loan c.tell-in-Err.ensures.loan

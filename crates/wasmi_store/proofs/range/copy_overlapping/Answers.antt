@@ -1,5 +1,5 @@
-use Rattle.std.proofs.Common.{◌+◌, ◌≤◌, arith}
-use Rattle.wasmi_store.proofs.RangeLemmas.{copied_down, copied_up}
+use Rattle.std.proofs.Common.{◌≡◌, ◌+◌, ◌≤◌, arith}
+use Rattle.wasmi_store.proofs.RangeLemmas.{copied_down, copied_up, overwritten}
 use Rattle.wasmi_store.proofs.range.copy_overlapping.Goals as goal
 
 pub loop-done-preserved : goal.loop-done-preserved
@@ -23,4 +23,18 @@ loop-left-preserved g c =
           (copied_up c.args.elements.now c.loop-left.elements c.args.dst c.args.src c.args.len c.loop-left.left
           c.min-count-in-loop-left.result (omega (arith, c.if-dst-src.false)) some c.loop-left.invariant.within
           c.requires.dst c.loop-left.invariant.copied);
+    }
+
+pub returns-then-len-le-CHUNK : goal.returns-then-len-le-CHUNK
+returns-then-len-le-CHUNK g c = record {
+  copied = rw c.copy_chunk.ensures.copied
+      (overwritten c.args.elements.now c.args.elements.now _ _ _ c.requires.src c.requires.dst);
+}
+
+pub returns-after-loop-done : goal.returns-after-loop-done
+returns-after-loop-done g c =
+    let all : c.loop-done.done ≡ c.args.len = omega (arith, c.loop-done-test.false, c.loop-done.invariant.within) in
+    record {
+      copied = rw (c.loop-done.invariant.copied, all)
+          (overwritten c.args.elements.now c.args.elements.now _ _ _ c.requires.src c.requires.dst);
     }

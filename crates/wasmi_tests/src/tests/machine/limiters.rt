@@ -268,11 +268,10 @@ fn a_machine_that_dropped_a_memory_comes_back(rt: HostRuntime) {
     ];
     runs_to(&rt, &mut used, &calls, &[Reply::Made(0), Reply::Done]);
     let mut pool = Pool::new(rt.alloc(), 131072, 0);
-    match pool.add(used) {
-        Ok(index) => same(&rt, "an index", Some(index), None),
-        Err((error, back)) => {
-            same(&rt, "the refusal", error, AddError::NotEmpty);
-            same(&rt, "its bytes", back.total_bytes(), 65536);
-        }
-    }
+    let refused = match pool.add(used) {
+        Ok(index) => Err(index),
+        Err((error, back)) => Ok((error, back.total_bytes())),
+    };
+    let expected = Ok((AddError::NotEmpty, 65536));
+    same(&rt, "the refusal, its bytes", refused, expected);
 }

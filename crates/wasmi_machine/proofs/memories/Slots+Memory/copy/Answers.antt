@@ -1,5 +1,6 @@
 use Rattle.wasmi_machine.proofs.Common.{memory_copy_of, Memory}
 use Rattle.wasmi_machine.proofs.RangeLemmas.{put_copied, put_without}
+use Rattle.wasmi_machine.proofs.SlotsLemmas.{taken_within}
 use Rattle.wasmi_machine.proofs.memories.Slots+Memory.copy.Goals.{in-Some, in-None}
 use Rattle.wasmi_machine.proofs.memories.Slots+Memory.copy.Goals as goal
 
@@ -19,3 +20,10 @@ returns-clause-copied c =
             was.ensures.value was.ensures.taken w.in-None.ensures,
       )
     ]
+
+pub item_mut-requires : goal.item_mut-requires
+item_mut-requires c =
+    record { there = taken_within _ _ _ _ c.in_ok-memory.ensures.value c.in_ok-memory.ensures.taken }
+
+pub returns-clause-reserved : goal.returns-clause-reserved
+returns-clause-reserved c = c.take.ensures.reserved

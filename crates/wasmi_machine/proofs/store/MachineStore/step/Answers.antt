@@ -50,3 +50,9 @@ returns-in-VectorLoad-clause-step g c =
 pub returns-in_default-clause-step : goal.returns-in_default-clause-step
 returns-in_default-clause-step g c =
     (0, 0, rw c.unwrap_or.ensures (c.step_register.ensures.step (lent_limiter c.args.limiter.now)))
+
+pub returns-in-NewTable-clause-step : goal.returns-in-NewTable-clause-step
+returns-in-NewTable-clause-step g c = rw c.unwrap_or-in-NewTable.ensures c.step_table.ensures.step
+
+pub returns-in-NewMemory-clause-step : goal.returns-in-NewMemory-clause-step
+returns-in-NewMemory-clause-step g c = rw c.unwrap_or-in-NewMemory.ensures c.step_memory.ensures.step

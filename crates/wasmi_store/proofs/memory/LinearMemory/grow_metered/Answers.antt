@@ -1,6 +1,6 @@
-use Rattle.std.proofs.Common.{◌≡◌, ◌-◌, ◌*◌, length, ap, arith, refl, sym, ◌∙◌}
+use Rattle.std.proofs.Common.{◌≡◌, ◌-◌, ◌*◌, Ok, length, ap, arith, refl, sym, ◌∙◌}
 use Rattle.wasmi_store.proofs.Common.{err_from_is_err_and, optional_rules, cond-false, MatchBool-at_true, memory_of, page_bytes, with_zeros}
-use Rattle.wasmi_store.proofs.GrowthLemmas.{growing, grows_unasked, grows_refused, grows_met}
+use Rattle.wasmi_store.proofs.GrowthLemmas.{loan_kept, growing, grows_none, grows_unasked, grows_refused, grows_met}
 use Rattle.wasmi_store.proofs.MemoryLemmas.{memory_growth, growth_asked, growth_permitted, more_with_pages, sized_grown}
 use Rattle.wasmi_store.proofs.memory.LinearMemory.grow_metered.Goals as goal
 
@@ -57,3 +57,10 @@ invariant_of-self-2 g c =
     ≡ c.args.additional * page_bytes c.self.inside.ty.page = omega (arith, found.1) in
     rw (c.in_default-grow.ensures.ok, added)
     (sized_grown c.self.inside.ty _ c.args.additional c.self.invariant found.0)
+
+pub returns-then-additional-eq0-clause-grown : goal.returns-then-additional-eq0-clause-grown
+returns-then-additional-eq0-clause-grown g c = grows_none (optional_rules g.L.ResourceLimiter.rules)
+    (memory_growth c.args.additional c.args.self.now) _ c.if-additional-eq0.true (ap Ok c.size-old_pages.ensures.value)
+
+pub returns-in-Err-clause-loan : goal.returns-in-Err-clause-loan
+returns-in-Err-clause-loan g c = loan_kept _ _ _ c.in_ok-decide_growth.ensures.loan c.tell.ensures.loan

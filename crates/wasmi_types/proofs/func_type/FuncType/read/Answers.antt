@@ -1,4 +1,4 @@
-use Rattle.std.proofs.Common.{refl, arith, length-append}
+use Rattle.std.proofs.Common.{refl, arith, rules, length-append}
 use Rattle.std.proofs.lemmas.Result.{err_from_is_err_and}
 use Rattle.wasmi_types.proofs.ReadingLemmas.{refused_results, refused_end, read_end}
 use Rattle.wasmi_types.proofs.func_type.FuncType.read.Goals as goal
@@ -37,3 +37,6 @@ from_entries-requires g c =
       params = omega (arith, first.counted, first.read.short);
       results = omega (arith, second.counted, second.read.short);
     }
+
+pub returns-in_err-len_params : goal.returns-in_err-len_params
+returns-in_err-len_params g c = search rules

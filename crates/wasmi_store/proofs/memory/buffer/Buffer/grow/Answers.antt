@@ -1,4 +1,4 @@
-use Rattle.std.proofs.Common.{◌≡◌, ◌≤◌, ◌-◌, sym, length, true}
+use Rattle.std.proofs.Common.{◌≡◌, ◌≤◌, ◌-◌, refl, sym, length, true}
 use Rattle.wasmi_store.specs.Buffer.{view_of, fits_room}
 use Rattle.wasmi_store.proofs.BufferLemmas.{owned_grows, lent_grows}
 use Rattle.wasmi_store.proofs.memory.buffer.Buffer.grow.Goals as goal
@@ -25,3 +25,12 @@ returns-clause-ok g c =
           w.fill_range.new.elements (rw (← w.front_mut.ensures.value) w.fill_range.ensures.filled)
           (g.met.R.Region.refills w.in-Lent.region n w.fill_range.new.elements))
     ]
+
+pub returns-clause-fits : goal.returns-clause-fits
+returns-clause-fits g c = sym c.if-not-has_room.ensures
+
+pub returns-then-not-has_room-clause-cause : goal.returns-then-not-has_room-clause-cause
+returns-then-not-has_room-clause-cause g c = rw (← c.if-not-has_room.ensures) refl
+
+pub returns-in-Err-clause-cause : goal.returns-in-Err-clause-cause
+returns-in-Err-clause-cause g c = rw (← c.self.view_is, c.in-Owned.is) refl
