@@ -661,6 +661,20 @@ def line_cases(its):
             yield line if len(line) <= 121 else case + "\n" + regions.textwrap.fill(put(call, members), 120, initial_indent=" " * 12, subsequent_indent=" " * 23) + "\n"
 
 
+# What the numbers of a list are, among those of their shape.
+NUMBERED = {"SCALAR_UNARIES": "scalar_unary", "MAKES": "make", "TESTS": "test", "SCALAR_BINARIES": "scalar_binary", "SHIFTS": "shift", "VECTOR_LOADS": "vector_load",
+            "V128_STORE": "vector_store"}
+
+
+def number_tests(_):
+    """Whether a number is one of a list, for those lists that a call tells apart."""
+    ranges, made = numbering.lists_by_number(), ""
+    for name, word in NUMBERED.items():
+        tests = " || ".join(f"op == {first}" if after == first + 1 else f"op < {after}" if first == 0 else f"(op >= {first} && op < {after})" for first, after in ranges[name])
+        made += f"static inline int is_{word}(uint16_t op) {{ return {tests.removeprefix('(').removesuffix(')') if len(ranges[name]) == 1 else tests}; }}\n"
+    return f"/* Which instruction a number of a shape is. */\n{made}"
+
+
 def script_lines(its):
     return f"""/* How many kinds of calls there are: the numbers from this one on stand for none. */
 enum {{ KINDS = {kind_count(its)} }};
@@ -708,7 +722,7 @@ FILES = {
     "rust/tests/scripts/bad_lines.rs": [(lines,)],
     "include/wasmi_machine.h": [(kinds,), (lambda its: errors.enumerators(errors.errors()),)],
     "crates/wasmi_c/src/machine/call_struct.rt": [(arms("call_of"),), (arms("range_call"),), (arms("table_call"),), (arms("value_call"),)],
-    "conformance/hostile/calls.h": [(script_lines, lambda its: errors.texts_in_c(errors.errors()))],
+    "conformance/hostile/calls.h": [(number_tests,), (script_lines, lambda its: errors.texts_in_c(errors.errors()))],
 }
 
 

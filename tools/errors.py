@@ -10,7 +10,7 @@ ERRORS = TOP / "crates/wasmi_meter/src/error.rt"
 ROWS = TOP / "tools/errors.toml"
 # The keys of a row, which the head of tools/errors.toml explains.
 NEEDED = {"text", "status", "number", "means"}
-POSSIBLE = {"plain", "header"}
+POSSIBLE = {"plain", "header", "refusal"}
 KINDS = {"MemoryError": "memory", "TableError": "table"}
 
 
@@ -90,6 +90,18 @@ static inline const char *error_of(uint8_t status) {{
     }}
 }}
 """
+
+
+def refusals():
+    """The table of docs/SCRIPT.md: the texts of each refusal, of memories and of tables."""
+    rows = {}
+    for it in errors():
+        if "refusal" in it.row:
+            said = it.row["text"] + "N" * it.has_fuel
+            texts = rows.setdefault(it.row["refusal"], {kind: [] for kind in KINDS})[it.enum]
+            texts.append(f"`` {said} ``" if "`" in said else f"`{said}`")
+    lines = (f"| {name} | {' | '.join(', '.join(its) for its in texts.values())} |\n" for name, texts in rows.items())
+    return "| Refusal | Text of a memory or an instruction | Text of a table |\n|---|---|---|\n" + "".join(lines)
 
 
 FILES = {

@@ -12,6 +12,21 @@ RATTLE = f"{KIT}/bin/rattle"
 DOCUMENTS = ("*.md", "docs/*.md", "bench/*.md", "conformance/*.md", "crates/*/*.md", "engine/*.md", "examples/*/*.md", "rust/*.md", "rust/*/*.md")
 
 
+def files():
+    """The files of the repository, as a clone has them."""
+    listed = subprocess.run(["git", "ls-files", "-coz", "--exclude-standard"], cwd=TOP, capture_output=True, text=True, check=True).stdout
+    return [name for name in sorted(filter(None, listed.split("\0"))) if (TOP / name).is_file()]
+
+
+def copied(folder):
+    """Makes a folder a copy of the repository's files, in one commit."""
+    for name in files():
+        (folder / name).parent.mkdir(parents=True, exist_ok=True)
+        shutil.copy(TOP / name, folder / name)
+    for words in (["init", "-q"], ["add", "-A"], ["-c", "user.name=copy", "-c", "user.email=copy@localhost", "commit", "-qm", "copy"]):
+        subprocess.run(["git", *words], cwd=folder, check=True)
+
+
 def crates(top=TOP):
     """Returns what each crate's line of crates.txt names, by its name."""
     lines = ((top / "crates.txt").read_text()).split("\n")

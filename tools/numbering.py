@@ -12,6 +12,7 @@ from libraries import TOP
 CRATES = TOP / "crates"
 CRATES_OF_LISTS = ("wasmi_ops", "wasmi_scalar_ops")
 SOURCE = CRATES / "wasmi_c/src/instruction/numbers.rt"
+RELEASED = TOP / "include" / "numbers.tsv"
 SPECIFICATION = CRATES / "wasmi_c/specs/ReleasedNumbers.antt"
 ROWS = re.compile(r"^macro_rules! (\w+) \{\n    \(\$make:ident!(.*?)\n\}", re.M | re.S)
 ROW = re.compile(r"\b([A-Z]\w*) (\w+),")
@@ -93,6 +94,20 @@ def names_by_number(released):
         if name not in SINGLE.values() and kind not in kinds:
             sys.exit(f"the instructions of {name} have no numbers: no shape of tools/numbering.py has that list")
     return named
+
+
+def lists_by_number():
+    """By the name of each list of a shape with several, and of an instruction that is in none, the numbers that its instructions have, as ranges: the first one and the
+    one after the last."""
+    rows = [line.split("\t") for line in RELEASED.read_text().splitlines()[1:]]
+    named = names_by_number({shape: [name for its, _, name in rows if its == shape] for shape in SEVERAL})
+    list_of, made = {kind: name for name, (kind, _) in lists().items()}, {}
+    for shape in SEVERAL:
+        numbered = enumerate(rows_of(shape)[name][1:] for name in named[shape])
+        for (kind, single), group in itertools.groupby(numbered, key=lambda it: (it[1][0], it[1][0] is None and it[0])):
+            first, *_, last = [number for number, _ in group] * 2
+            made.setdefault(list_of[kind] if kind else named[shape][first].upper(), []).append((first, last + 1))
+    return made
 
 
 def wrapped(words, indent):

@@ -10,7 +10,9 @@ const INSTRUCTIONS: [&str; 9] =
     ["unary", "binary", "ternary", "extract_lane", "replace_lane", "load", "store", "load_lane", "store_lane"];
 
 /// Names of instructions that the Rust crate has no function for.
-const LACKING: [&str; 0] = [];
+const LACKING: &[&str] = &[
+    // A line for each.
+];
 
 fn main() {
     let numbers = "../../include/numbers.tsv";

@@ -21,14 +21,23 @@ static const char *const STORES[] = {WASMI_STORE_NAMES(NAME)};
 static const char *const LANE_LOADS[] = {WASMI_LOAD_LANE_NAMES(NAME)};
 static const char *const LANE_STORES[] = {WASMI_STORE_LANE_NAMES(NAME)};
 
-/* The first number of each command in a list of several commands. */
-enum { FIRST_MAKE = 16, FIRST_UNARY = 28, FIRST_TEST = 54, FIRST_SHIFT = 150 };
-enum { FIRST_VECTOR_LOAD = 12, VECTOR_STORE = 7 };
+#define COUNT(list) (sizeof(list) / sizeof(list)[0])
+
+/* What tools/generate writes begins. */
+/* Which instruction a number of a shape is. */
+static inline int is_scalar_unary(uint16_t op) { return op < 16; }
+static inline int is_make(uint16_t op) { return op >= 16 && op < 28; }
+static inline int is_test(uint16_t op) { return op >= 54 && op < 63; }
+static inline int is_scalar_binary(uint16_t op) { return op < 54; }
+static inline int is_shift(uint16_t op) { return op >= 150 && op < 162; }
+static inline int is_vector_load(uint16_t op) { return op >= 12 && op < 25; }
+static inline int is_vector_store(uint16_t op) { return op == 7; }
+/* What tools/generate writes ends. */
 
 static inline const char *name_of(const char *const *names, size_t count, uint16_t op) {
     return op < count ? names[op] : "unknown";
 }
-#define NAME_OF(names, op) name_of(names, sizeof names / sizeof names[0], op)
+#define NAME_OF(names, op) name_of(names, COUNT(names), op)
 
 static inline const char *reference_word(uint8_t type) {
     return type == WASMI_TYPE_FUNCREF ? "func" : type == WASMI_TYPE_EXTERNREF ? "extern" : "unknown";
@@ -61,26 +70,26 @@ static inline char *line_by_hand(char *at, const wasmi_call *c) {
             at = maximum_word(put(at, "memory" U, c->count), c);
             return put(at, " %d %d", c->page_size_log2, c->is_64 ? 64 : 32);
         case WASMI_CALL_LOAD:
-            return c->op < FIRST_VECTOR_LOAD
-                ? put(at, "load %s %zu" U U, NAME_OF(LOADS, c->op), c->index, c->ptr, c->offset)
-                : put(at, "vload %s %d %zu" U U, NAME_OF(LOADS, c->op), c->dst, c->index, c->ptr, c->offset);
+            return is_vector_load(c->op)
+                ? put(at, "vload %s %d %zu" U U, NAME_OF(LOADS, c->op), c->dst, c->index, c->ptr, c->offset)
+                : put(at, "load %s %zu" U U, NAME_OF(LOADS, c->op), c->index, c->ptr, c->offset);
         case WASMI_CALL_STORE:
-            return c->op == VECTOR_STORE
+            return is_vector_store(c->op)
                 ? put(at, "vstore %d %zu" U U, c->a, c->index, c->ptr, c->offset)
                 : put(at, "store %s %zu" U U U, NAME_OF(STORES, c->op), c->index, c->ptr, c->offset, c->value.lo);
         case WASMI_CALL_NEW_TABLE:
             at = maximum_word(put(at, "table %s" U, type, c->count), c);
             return put(at, " %d %s %" PRIu32, c->is_64 ? 64 : 32, type, c->reference);
         case WASMI_CALL_UNARY:
-            if (c->op >= FIRST_TEST) {
+            if (is_test(c->op)) {
                 return put(at, "test %s %d", NAME_OF(UNARIES, c->op), c->a);
             }
-            at = put(at, c->op < FIRST_MAKE || c->op >= FIRST_UNARY ? "unary" : "make");
+            at = put(at, is_make(c->op) ? "make" : "unary");
             return put(at, " %s %d %d", NAME_OF(UNARIES, c->op), c->dst, c->a);
         case WASMI_CALL_BINARY:
-            at = put(at, c->op < FIRST_SHIFT ? "binary" : "shift");
+            at = put(at, is_shift(c->op) ? "shift" : "binary");
             at = put(at, " %s %d %d", NAME_OF(BINARIES, c->op), c->dst, c->a);
-            return put(at, U, c->op < FIRST_SHIFT ? c->b : c->count);
+            return put(at, U, is_shift(c->op) ? c->count : c->b);
         case WASMI_CALL_SHUFFLE:
             at = put(at, "shuffle %d %d %d", c->dst, c->a, c->b);
             for (int i = 0; i < 16; i++) {

@@ -81,9 +81,9 @@ static int is_direct(const wasmi_call *c) {
         case WASMI_CALL_FILL_MEMORY:
         case WASMI_CALL_COPY_MEMORY: return 1;
         case WASMI_CALL_INIT_MEMORY: return c->from <= UINT32_MAX && c->count <= UINT32_MAX;
-        case WASMI_CALL_LOAD: return c->op < FIRST_VECTOR_LOAD || c->op >= sizeof LOADS / sizeof LOADS[0];
-        case WASMI_CALL_STORE: return c->op != VECTOR_STORE;
-        case WASMI_CALL_BINARY: return c->op < FIRST_SHIFT || c->op >= sizeof BINARIES / sizeof BINARIES[0];
+        case WASMI_CALL_LOAD: return !is_vector_load(c->op);
+        case WASMI_CALL_STORE: return !is_vector_store(c->op);
+        case WASMI_CALL_BINARY: return !is_shift(c->op);
         default: return 0;
     }
 }
@@ -165,8 +165,8 @@ static int gives_value(const wasmi_call *c) {
         case WASMI_CALL_GET_GLOBAL:
         case WASMI_CALL_GET_REGISTER:
         case WASMI_CALL_EXTRACT_LANE: return 1;
-        case WASMI_CALL_LOAD: return c->op < FIRST_VECTOR_LOAD;
-        case WASMI_CALL_UNARY: return c->op >= FIRST_TEST;
+        case WASMI_CALL_LOAD: return !is_vector_load(c->op);
+        case WASMI_CALL_UNARY: return is_test(c->op);
         default: return 0;
     }
 }
@@ -192,15 +192,24 @@ static char *text_of(char *at, const wasmi_call *c, wasmi_reply reply) {
 
 /* Random calls: most have a meaning. */
 
+/* A number of a list or the one after them; seldom that of a scalar instruction, which no call has. */
+static uint16_t number_below(size_t count, int (*is_scalar)(uint16_t)) {
+    uint16_t op;
+    do {
+        op = (uint16_t)below(count + 1);
+    } while (is_scalar(op) && below(20) > 0);
+    return op;
+}
+
 static uint16_t random_op(uint16_t kind) {
     switch (kind) {
-        case WASMI_CALL_LOAD: return (uint16_t)below(26);
-        case WASMI_CALL_STORE: return (uint16_t)below(9);
-        case WASMI_CALL_UNARY: return (uint16_t)(FIRST_MAKE - 1 + below(49));
-        case WASMI_CALL_BINARY: return (uint16_t)(FIRST_TEST - 1 + below(110));
-        case WASMI_CALL_TERNARY:
-        case WASMI_CALL_EXTRACT_LANE: return (uint16_t)below(7);
-        default: return (uint16_t)below(5);
+        case WASMI_CALL_LOAD: return (uint16_t)below(COUNT(LOADS) + 1);
+        case WASMI_CALL_STORE: return (uint16_t)below(COUNT(STORES) + 1);
+        case WASMI_CALL_UNARY: return number_below(COUNT(UNARIES), is_scalar_unary);
+        case WASMI_CALL_BINARY: return number_below(COUNT(BINARIES), is_scalar_binary);
+        case WASMI_CALL_TERNARY: return (uint16_t)below(COUNT(TERNARIES) + 1);
+        case WASMI_CALL_EXTRACT_LANE: return (uint16_t)below(COUNT(EXTRACTIONS) + 1);
+        default: return (uint16_t)below(COUNT(REPLACEMENTS) + 1);
     }
 }
 
@@ -599,7 +608,7 @@ static void without_machine(void) {
     for (uint16_t kind = 0; kind < KINDS; kind++) {
         for (int times = 0; times < 8; times++) {
             wasmi_call call = of_kind(kind);
-            call.op = (uint16_t)(times % 2 ? UINT16_MAX : kind == WASMI_CALL_BINARY ? FIRST_TEST : 0);
+            call.op = (uint16_t)(times % 2 ? UINT16_MAX : kind == WASMI_CALL_BINARY ? (int)COUNT(BINARIES) - 1 : 0);
             count += called(&machine, call).status == WASMI_NO_MACHINE;
         }
     }

@@ -139,9 +139,8 @@ pub enum Reply {
     Fuel(FuelError),
     Global(GlobalError),
     Trap(TrapCode),
-    NoSuch,
-    NoRegion,
-    NoRoom,
+    /// What is printed where the Rust crate has no error for it.
+    Said(&'static str),
 }
 macro_rules! reply_from { ($($e:ty => $v:ident),*) => { $(impl From<$e> for Reply { fn from(e: $e) -> Self { Reply::$v(e) } })* } }
 reply_from! { MemoryError => Memory, TableError => Table, FuelError => Fuel, GlobalError => Global, TrapCode => Trap }

@@ -23,7 +23,7 @@ macro_rules! live {
     ($slot:expr) => {
         match $slot {
             Some(Slot::Live(value)) => value,
-            _ => return NoSuch,
+            _ => return Said("no such"),
         }
     };
 }
@@ -33,7 +33,7 @@ macro_rules! found {
     ($value:expr) => {
         match $value {
             Some(value) => value,
-            None => return NoSuch,
+            None => return Said("no such"),
         }
     };
 }
@@ -197,7 +197,7 @@ impl Machine {
                 Made("memory", self.memories.len() - 1)
             }
             Call::NewLentMemory(ty) => {
-                let Some(region) = self.region.take() else { return NoRegion };
+                let Some(region) = self.region.take() else { return Said("no region") };
                 let len = region.len();
                 let memory = given!(Memory::new_static(growable(ty), &mut limiter, region));
                 self.memories.push(Slot::Live(Lent { memory, region: Some(len) }));
@@ -224,7 +224,7 @@ impl Machine {
                 }
                 let mut bytes = Vec::new();
                 if bytes.try_reserve_exact(len).is_err() {
-                    return NoRoom;
+                    return Said("no room");
                 }
                 bytes.extend_from_slice(&data[offset..offset + len]);
                 Bytes(bytes)
@@ -302,7 +302,7 @@ impl Machine {
                 } else {
                     let Ok([Slot::Live(to), Slot::Live(from)]) = self.tables.get_disjoint_mut([dst_table, src_table])
                     else {
-                        return NoSuch;
+                        return Said("no such");
                     };
                     Table::copy(to, dst, from, src, len, fuel)
                 });

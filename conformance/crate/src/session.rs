@@ -36,9 +36,7 @@ fn print(text: &mut String, reply: &Reply) {
         Reply::Fuel(error) => writeln!(text, "error {error}"),
         Reply::Global(error) => writeln!(text, "error {error}"),
         Reply::Trap(error) => writeln!(text, "error {error}"),
-        Reply::NoSuch => writeln!(text, "no such"),
-        Reply::NoRegion => writeln!(text, "no region"),
-        Reply::NoRoom => writeln!(text, "no room"),
+        Reply::Said(said) => writeln!(text, "{said}"),
     };
 }
 

@@ -1,6 +1,6 @@
 //! Tables: how one is made, grows and is reserved for, its type and size, and how its elements are
 //! read, set, filled, copied and initialized.
-ghost use Rattle.std.specs.Prelude.{◌≡◌, ◌<◌, OnErr, OnOk, length, Some};
+ghost use Rattle.std.specs.Prelude.{◌≡◌, ◌≢◌, ◌<◌, OnErr, OnOk, length, Some};
 ghost use Rattle.wasmi_meter.specs.Limiter.{optional_rules, lent_limiter, KeepsLoan};
 ghost use Rattle.wasmi_meter.specs.Meter.{meter_at_entry, meter_at_exit};
 ghost use Rattle.wasmi_store.specs.Growth.{metered_value, metered};
@@ -248,6 +248,25 @@ impl Table {
         if delta == 0 {
             return Ok(self.size());
         }
+        self.grow_raw_asked(delta, init, fuel, limiter)
+    }
+
+    /// A growth by at least one element, for which the limiter is asked. A growth by nothing is a test
+    /// where it is called, so that the calls of a machine beside it don't pay for this function.
+    #[inline]
+    fn grow_raw_asked<L: ResourceLimiter>(
+        &mut self,
+        delta: u64,
+        init: RawRef,
+        fuel: &mut Fuel,
+        limiter: &mut ResourceLimiterRef<L>,
+    ) -> Result<u64, TableError>
+        requires asked { delta ≢ 0 }
+        ensures loan { KeepsLoan limiter.old limiter.new }
+        ensures grown { GrowsTableRaw (optional_rules L.rules) delta init
+            (metered_value self.old (Some fuel.old) (lent_limiter limiter.old)) result
+            (metered_value self.new (Some fuel.new) (lent_limiter limiter.new)) }
+    {
         let size = self.elements.len();
         let Some(desired) = self.ty.grown_size(size as u64, delta) else {
             return Err(TableError::GrowOutOfBounds);

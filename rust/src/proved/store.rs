@@ -3042,6 +3042,33 @@ mod table {
             if delta == 0 {
                 return Ok(self.size());
             }
+            self.grow_raw_asked(delta, init, fuel, limiter)
+        }
+
+        /// A growth by at least one element, for which the limiter is asked. A growth by nothing is a test
+        /// where it is called, so that the calls of a machine beside it don't pay for this function.
+        ///
+        /// # Contract
+        ///
+        /// ```text
+        /// requires asked: delta ≢ 0
+        /// ensures loan: KeepsLoan limiter.old limiter.new
+        /// ensures grown: GrowsTableRaw (optional_rules L.rules) delta init
+        ///     (metered_value self.old (Some fuel.old) (lent_limiter limiter.old)) result
+        ///     (metered_value self.new (Some fuel.new) (lent_limiter limiter.new))
+        /// ```
+        ///
+        /// Definitions: [`KeepsLoan`](crate::specs::meter::LimiterSpecs#KeepsLoan), [`GrowsTableRaw`](crate::specs::store::TableSpecs#GrowsTableRaw), [`optional_rules`](crate::specs::meter::LimiterSpecs#optional_rules), [`metered_value`](crate::specs::store::GrowthSpecs#metered_value), [`lent_limiter`](crate::specs::meter::LimiterSpecs#lent_limiter).
+        ///
+        /// `L` is the type of the limiter, a [`ResourceLimiter`](crate::machine::ResourceLimiter#contract).
+        #[inline]
+        fn grow_raw_asked<L: ResourceLimiter>(
+            &mut self,
+            delta: u64,
+            init: RawRef,
+            fuel: &mut Fuel,
+            limiter: &mut ResourceLimiterRef<L>,
+        ) -> Result<u64, TableError> {
             let size = self.elements.len();
             let Some(desired) = self.ty.grown_size(size as u64, delta) else {
                 return Err(TableError::GrowOutOfBounds);

@@ -3,7 +3,7 @@ use Rattle.wasmi_store.proofs.Common.{cond-false, err_from_is_err_and, optional_
 use Rattle.wasmi_store.proofs.GrowthLemmas.{growing, grows_unasked, grows_denied, grows_late, grows_unpaid, grows_refused, grows_met}
 use Rattle.wasmi_store.proofs.TableLemmas.{table_growth, growth_asked, growth_permitted}
 use Rattle.wasmi_store.proofs.WriteLemmas.{table_with}
-use Rattle.wasmi_store.proofs.table.Table.grow_raw_metered.Goals as goal
+use Rattle.wasmi_store.proofs.table.Table.grow_raw_asked.Goals as goal
 
 -- where a call failed, what holds of its failures holds
 of_failure : {T E P : Type 0} (result : Result T E) → is_err result ≡ true → OnErr result P → P
@@ -19,14 +19,14 @@ resized xs size n desired reference e reaches =
 pub returns-in_default-clause-grown : goal.returns-in_default-clause-grown
 returns-in_default-clause-grown g c = rw (← c.self.view_is) (grows_unasked
     (growing (optional_rules g.L.ResourceLimiter.rules) (table_growth c.args.delta c.args.init) _ c.args.fuel.now _
-    c.if-delta-eq0.false) _ (cond-false _ _ _ (rw (c.len-size.ensures ∙ c.self.inside.elements.ok.0) at c.in_default.ensures)))
+    c.requires.asked) _ (cond-false _ _ _ (rw (c.len-size.ensures ∙ c.self.inside.elements.ok.0) at c.in_default.ensures)))
 
 pub returns-in_err-permission-clause-grown : goal.returns-in_err-permission-clause-grown
 returns-in_err-permission-clause-grown g c =
     let p = err_from_is_err_and c.from_residual.result c.from_residual.ensures.1 in
     rw (p.1, p.2, ← c.self.view_is) (
     grows_denied (growing (optional_rules g.L.ResourceLimiter.rules) (table_growth c.args.delta c.args.init) _
-    c.args.fuel.now _ c.if-delta-eq0.false)
+    c.args.fuel.now _ c.requires.asked)
     _ (growth_asked _ c.args.delta c.args.init (c.len-size.ensures ∙ c.self.inside.elements.ok.0) c.in-Some.ensures
     c.maximum_size.ensures) _ _ c.table_growing-answer.ensures.asked _ c.in_err-permission.ensures
     )
@@ -34,14 +34,14 @@ returns-in_err-permission-clause-grown g c =
 pub returns-then-not-allows_size-clause-grown : goal.returns-then-not-allows_size-clause-grown
 returns-then-not-allows_size-clause-grown g c =
     let permits = growth_permitted (optional_rules g.L.ResourceLimiter.rules) _ c.args.fuel.now c.args.delta c.args.init
-    c.if-delta-eq0.false (growth_asked _ _ _ (c.len-size.ensures ∙ c.self.inside.elements.ok.0) c.in-Some.ensures
+    c.requires.asked (growth_asked _ _ _ (c.len-size.ensures ∙ c.self.inside.elements.ok.0) c.in-Some.ensures
     c.maximum_size.ensures) c.in_ok-permission.ensures c.table_growing-answer.ensures.asked in
     rw (← c.self.view_is) (grows_late permits (sym c.if-not-allows_size.ensures) _ _ c.tell.ensures.told)
 
 pub returns-in-Err-clause-grown : goal.returns-in-Err-clause-grown
 returns-in-Err-clause-grown g c =
     let permits = growth_permitted (optional_rules g.L.ResourceLimiter.rules) _ c.args.fuel.now c.args.delta c.args.init
-    c.if-delta-eq0.false (growth_asked _ _ _ (c.len-size.ensures ∙ c.self.inside.elements.ok.0) c.in-Some.ensures
+    c.requires.asked (growth_asked _ _ _ (c.len-size.ensures ∙ c.self.inside.elements.ok.0) c.in-Some.ensures
     c.maximum_size.ensures) c.in_ok-permission.ensures c.table_growing-answer.ensures.asked in
     rw (← c.self.view_is)
     (grows_unpaid permits (sym c.if-not-allows_size.ensures) c.charge.new.fuel _ c.in-Err.ensures _ _
@@ -50,7 +50,7 @@ returns-in-Err-clause-grown g c =
 pub returns-then-is_err-clause-grown : goal.returns-then-is_err-clause-grown
 returns-then-is_err-clause-grown g c =
     let permits = growth_permitted (optional_rules g.L.ResourceLimiter.rules) _ c.args.fuel.now c.args.delta c.args.init
-    c.if-delta-eq0.false (growth_asked _ _ _ (c.len-size.ensures ∙ c.self.inside.elements.ok.0) c.in-Some.ensures
+    c.requires.asked (growth_asked _ _ _ (c.len-size.ensures ∙ c.self.inside.elements.ok.0) c.in-Some.ensures
     c.maximum_size.ensures) c.in_ok-permission.ensures c.table_growing-answer.ensures.asked in
     let same = rw c.if-is_err.ensures.negation at c.resize.ensures.items in
     let full = of_failure c.resize.result (sym c.if-is_err.ensures.value) c.resize.ensures.full in
@@ -64,7 +64,7 @@ returns-then-is_err-clause-grown g c =
 pub returns-clause-grown : goal.returns-clause-grown
 returns-clause-grown g c =
     let permits = growth_permitted (optional_rules g.L.ResourceLimiter.rules) _ c.args.fuel.now c.args.delta c.args.init
-    c.if-delta-eq0.false (growth_asked _ _ _ (c.len-size.ensures ∙ c.self.inside.elements.ok.0) c.in-Some.ensures
+    c.requires.asked (growth_asked _ _ _ (c.len-size.ensures ∙ c.self.inside.elements.ok.0) c.in-Some.ensures
     c.maximum_size.ensures) c.in_ok-permission.ensures c.table_growing-answer.ensures.asked in
     let sized = c.len-size.ensures ∙ c.self.inside.elements.ok.0 in
     let grown = (rw c.if-is_err.ensures.negation at c.resize.ensures.items)
