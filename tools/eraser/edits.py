@@ -1,5 +1,7 @@
 """What the generated text has otherwise than the sources, so that the Rust crate's API can stand on it. The edit under "Upstream's feature" alone
 changes what a function returns, and those of `Debug` what is printed; tools/erased.toml has the reason of each."""
+import re
+
 from calls import calls
 
 # (module, text, its replacement, how often it stands there)
@@ -89,8 +91,10 @@ def patterns(subject):
 
 
 for subject, step in GROUPS.items():
-    arm = f" => self.{step}(call, limiter).unwrap_or(Reply::NoSuch),\n"
-    EDITS.append(("machine", "\n            | ".join(patterns(subject)) + arm, "".join(pattern + arm for pattern in patterns(subject)), 1))
+    arm, last = f" => self.{step}(call, limiter).unwrap_or(Reply::NoSuch),\n", patterns(subject)[-1]
+    # As rustfmt sets the last one: in one line of at most 100 columns, or in three.
+    set_arm = arm if len(f"            | {last}{arm}") <= 101 else re.sub(r"\.(step_\w+\(|unwrap_or)", rf"\n{' ' * 16}.\1", arm)
+    EDITS.append(("machine", "\n            | ".join(patterns(subject)) + set_arm, "".join(pattern + arm for pattern in patterns(subject)), 1))
 EDITS.append(("machine", "            _ => self.step_register", " | ".join(patterns("RegisterFile")) + " => self.step_register", 1))
 
 # A macro that is exported is at the root.
