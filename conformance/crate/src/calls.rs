@@ -8,10 +8,20 @@ use crate::random::Random;
 use crate::structs::Member;
 use wasmi_core::{
     FuelError, GlobalError, GlobalType, MemoryError, MemoryType, RawRef, RawVal, ReadAs, RefType, TableError,
-    TableType, TrapCode, TypedRawRef, TypedRawVal, V128, simd, wasm,
+    TableType, TrapCode, TypedRawRef, TypedRawVal, V128,
 };
 #[cfg(feature = "library")]
 use wasmi_core_proved::machine;
+
+/// The crate's scalar functions, and those that it lacks.
+mod wasm {
+    pub use wasmi_core::wasm::*;
+}
+
+/// The crate's vector functions, and those that it lacks.
+mod simd {
+    pub use wasmi_core::simd::*;
+}
 
 /// Makes of the rows the enum `Call`, what reads and what draws a command, and what reads a struct of C.
 ///
