@@ -296,6 +296,17 @@ fn row_16() {
 }
 
 #[test]
+fn only_a_shorter_region_has_no_room() {
+    let mut region = [7; 10];
+    let lent = ByteBuffer::new_static(&mut region, 5).unwrap();
+    let owned = ByteBuffer::new(5).unwrap();
+    let sizes = [0, 5, 10, 11, usize::MAX];
+    let rooms = sizes.map(|size| (lent.has_room(size), owned.has_room(size)));
+    assert_eq!(rooms.map(|it| it.0), sizes.map(|size| size <= 10));
+    assert_eq!(rooms.map(|it| it.1), [true; 5]);
+}
+
+#[test]
 fn row_17() {
     let mut limiter = Recorder::new(Ok(true));
     let mut table = Table::new(

@@ -10,11 +10,12 @@ pub fn main(rt: HostRuntime) -> anyhow::Result<()> {
     fuel.set_fuel(2000)?;
     let mut builder = MemoryType::builder();
     builder.min(1);
+    let ty = builder.build()?;
     let grow = Call::GrowMemory {
         memory: 0,
         pages: 1,
     };
-    let calls = [Call::NewMemory(builder.build()?), grow, Call::GetFuel];
+    let calls = [Call::NewMemory(ty), grow, Call::GetFuel];
     let mut machine = Machine::new(rt.alloc(), fuel);
     bill(&rt, &mut machine, &calls)?;
     Ok(())

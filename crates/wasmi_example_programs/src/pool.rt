@@ -15,12 +15,10 @@ pub fn main(rt: HostRuntime) -> anyhow::Result<()> {
     host(&rt, &mut pool, &calls)
 }
 
-/// Adds two tenants, runs the calls on each, and prints what they hold.
+/// Adds two tenants, each of which runs the calls, and prints what they hold.
 fn host(rt: &HostRuntime, pool: &mut Pool, calls: &[Call]) -> anyhow::Result<()> {
-    for _tenant in 0..2 {
+    for tenant in 0..2 {
         add(rt, pool)?;
-    }
-    for tenant in 0..pool.len() {
         run(rt, pool, tenant, calls)?;
     }
     for tenant in 0..pool.len() {

@@ -8,11 +8,12 @@ pub fn main(rt: HostRuntime) -> anyhow::Result<()> {
     // One to sixteen pages of 64 KiB, as a module may declare it.
     let mut builder = MemoryType::builder();
     builder.min(1).max(Some(16));
+    let ty = builder.build()?;
     let grow = Call::GrowMemory {
         memory: 0,
         pages: 2,
     };
-    let calls = [Call::NewMemory(builder.build()?), grow];
+    let calls = [Call::NewMemory(ty), grow];
     let (replies, held) = run(&rt, &calls)?;
     print(&rt, &calls, &replies, held)?;
     Ok(())

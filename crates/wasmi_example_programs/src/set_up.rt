@@ -31,21 +31,19 @@ fn host(rt: &HostRuntime, machine: &mut Machine) -> anyhow::Result<()> {
 }
 
 /// Makes the memory, of one page in the region, and the table, and reserves all that guests take:
-/// the elements of the table up to its maximum, and the slots of globals.
+/// the slots of globals, and the elements of the table up to its maximum.
 fn set_up(rt: &impl Print, machine: &mut Machine) -> anyhow::Result<()> {
     let mut builder = MemoryType::builder();
     builder.min(64).page_size_log2(0);
-    let ty = TableType::new(RefType::Func, 0, Some(1000));
-    let init = func(0);
-    let calls = [
-        Call::NewLentMemory(builder.build()?),
-        Call::NewTable { ty, init },
-    ];
-    let made = run_lending(machine, &calls, &mut NoLimits)?;
+    let memory = builder.build()?;
     machine.reserve(SlotCounts {
         globals: 1000,
         ..SlotCounts::default()
     })?;
+    let ty = TableType::new(RefType::Func, 0, Some(1000));
+    let init = func(0);
+    let calls = [Call::NewLentMemory(memory), Call::NewTable { ty, init }];
+    let made = run_lending(machine, &calls, &mut NoLimits)?;
     let reserved = machine.reserve_elements(0, 1000);
     println!(rt; "set up: {made:?}, {reserved:?}")?;
     Ok(())

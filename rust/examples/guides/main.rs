@@ -15,11 +15,12 @@ mod bill {
         fuel.set_fuel(2000)?;
         let mut builder = MemoryType::builder();
         builder.min(1);
+        let ty = builder.build()?;
         let grow = Call::GrowMemory {
             memory: 0,
             pages: 1,
         };
-        let calls = [Call::NewMemory(builder.build()?), grow, Call::GetFuel];
+        let calls = [Call::NewMemory(ty), grow, Call::GetFuel];
         let mut machine = Machine::new(fuel);
         bill(&mut machine, &calls)?;
         Ok(())
@@ -198,12 +199,10 @@ mod pool {
         host(&mut pool, &calls)
     }
 
-    /// Adds two tenants, runs the calls on each, and prints what they hold.
+    /// Adds two tenants, each of which runs the calls, and prints what they hold.
     fn host(pool: &mut Pool, calls: &[Call]) -> Result<(), Box<dyn std::error::Error>> {
-        for _tenant in 0..2 {
+        for tenant in 0..2 {
             add(pool)?;
-        }
-        for tenant in 0..pool.len() {
             run(pool, tenant, calls)?;
         }
         for tenant in 0..pool.len() {
@@ -248,11 +247,12 @@ mod quota {
         // One to sixteen pages of 64 KiB, as a module may declare it.
         let mut builder = MemoryType::builder();
         builder.min(1).max(Some(16));
+        let ty = builder.build()?;
         let grow = Call::GrowMemory {
             memory: 0,
             pages: 2,
         };
-        let calls = [Call::NewMemory(builder.build()?), grow];
+        let calls = [Call::NewMemory(ty), grow];
         let (replies, held) = run(&calls)?;
         print(&calls, &replies, held)?;
         Ok(())
@@ -315,21 +315,19 @@ mod set_up {
     }
 
     /// Makes the memory, of one page in the region, and the table, and reserves all that guests take:
-    /// the elements of the table up to its maximum, and the slots of globals.
+    /// the slots of globals, and the elements of the table up to its maximum.
     fn set_up(machine: &mut Machine) -> Result<(), Box<dyn std::error::Error>> {
         let mut builder = MemoryType::builder();
         builder.min(64).page_size_log2(0);
-        let ty = TableType::new(RefType::Func, 0, Some(1000));
-        let init = func(0);
-        let calls = [
-            Call::NewLentMemory(builder.build()?),
-            Call::NewTable { ty, init },
-        ];
-        let made = run_lending(machine, &calls, &mut NoLimits)?;
+        let memory = builder.build()?;
         machine.reserve(SlotCounts {
             globals: 1000,
             ..SlotCounts::default()
         })?;
+        let ty = TableType::new(RefType::Func, 0, Some(1000));
+        let init = func(0);
+        let calls = [Call::NewLentMemory(memory), Call::NewTable { ty, init }];
+        let made = run_lending(machine, &calls, &mut NoLimits)?;
         let reserved = machine.reserve_elements(0, 1000);
         writeln!(std::io::stdout(), "set up: {made:?}, {reserved:?}")?;
         Ok(())

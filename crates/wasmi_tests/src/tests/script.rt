@@ -60,24 +60,36 @@ struct Script {
 // A script whose calls are answered.
 const METERED: Script = metered! {};
 
-// Compares a printed text with what it has to be.
-fn same_text(rt: &impl Abort, printed: &[u8], expected: &[u8]) {
-    let (text, wanted) = (str::from_utf8(printed), str::from_utf8(expected));
-    assert!(rt; printed == expected, "{text:?} in place of {wanted:?}");
-}
-
-// Runs what the reader gives, and compares what is printed and how it ends.
-fn prints<R: Abort>(rt: &R, alloc: Global, reader: &mut Source<'_>, printed: &str, status: Status) {
-    let mut writer = Target::new(alloc);
-    let ended = replay(alloc, reader, &mut writer);
-    same(rt, printed, ended, status);
-    same_text(rt, writer.text(), printed.as_bytes());
+// Runs what the reader gives, and compares what the writer takes and how it ends.
+fn prints<R: Abort>(
+    rt: &R,
+    alloc: Global,
+    mut reader: Source<'_>,
+    mut writer: Target,
+    printed: &[u8],
+    status: Status,
+) {
+    let ended = replay(alloc, &mut reader, &mut writer);
+    let answer = (ended, str::from_utf8(writer.text()));
+    same(
+        rt,
+        "how it ends, its text",
+        answer,
+        (status, str::from_utf8(printed)),
+    );
 }
 
 // Replays a script whose calls are answered, and compares what is printed.
 fn answers<R: Abort>(rt: &R, alloc: Global, script: &str, printed: &str) {
-    let mut reader = Source::of(script.as_bytes());
-    prints(rt, alloc, &mut reader, printed, Status::Answered);
+    let (reader, writer) = (Source::of(script.as_bytes()), Target::new(alloc));
+    prints(
+        rt,
+        alloc,
+        reader,
+        writer,
+        printed.as_bytes(),
+        Status::Answered,
+    );
 }
 
 // Replays scripts whose calls are answered, and compares what is printed.

@@ -289,11 +289,10 @@ mod machine {
             let replies = replies.expect("there is room");
             same("replies", replies.as_slice(), expected.as_slice());
             let held = (allowance.held_bytes(), allowance.held_elements());
-            same("what is held", held, (196608, 3));
             let totals = (machine.total_bytes(), machine.total_elements());
-            same("the totals", totals, (196608, 3));
-            same("the growths that are left", allowance.growths, 0);
-            drop(machine);
+            let answer = (held, totals, allowance.growths);
+            let expected = ((196608, 3), (196608, 3), 0);
+            same("what is held, the totals, growths left", answer, expected);
         }
 
         /// Answers questions by the bits of one number, two for each, and notices by the bits of another,
@@ -389,11 +388,10 @@ mod machine {
             let mut limiter = random;
             let replies = run_lending(&mut machine, &calls, &mut limiter).ok();
             same("the replies", replies, Some(expected));
-            same("the questions", limiter.questions, 32);
-            same("the limiter", limiter, foretold);
             let size = machine.memory(0).map(|memory| memory.size());
-            same("the pages", size, Some(pages));
-            drop(machine);
+            let answer = (limiter.questions, limiter, size);
+            let expected = (32, foretold, Some(pages));
+            same("questions, limiter, pages", answer, expected);
             pages
         }
 
@@ -419,10 +417,16 @@ mod machine {
                 Ok(_replies) => (1, 7, 3),
                 Err(_) => (0, 0, 0),
             };
-            same("the questions", random.questions, questions);
-            same("the fuel", machine.fuel().get_fuel(), Ok(fuel));
-            same("the bytes", machine.total_bytes(), bytes);
-            drop(machine);
+            let answer = (
+                random.questions,
+                machine.fuel().get_fuel(),
+                machine.total_bytes(),
+            );
+            same(
+                "questions, fuel, bytes",
+                answer,
+                (questions, Ok(fuel), bytes),
+            );
         }
 
         #[test]
@@ -610,10 +614,11 @@ mod script {
 
     mod bad_lines {
         //! Lines that are no commands, and scripts that are too long.
-        use super::prints;
-        use super::streams::Source;
+        use super::streams::{Source, Target};
+        use super::{answers, prints};
         use crate::proved::script::{LIMIT, Status};
         use crate::rattle::StrExt;
+        use std::string::String;
 
         // Scripts, and what is printed of their first bad line.
         static BAD_LINES: [(&[u8], &str); 17] = [
@@ -643,8 +648,8 @@ mod script {
         ];
 
         fn is_bad(script: &[u8], printed: &str) {
-            let mut reader = Source::of(script);
-            prints(&mut reader, printed, Status::BadScript);
+            let (reader, writer) = (Source::of(script), Target::new());
+            prints(reader, writer, printed.as_bytes(), Status::BadScript);
         }
 
         #[test]
@@ -654,13 +659,17 @@ mod script {
             }
         }
 
+        // A text, so many times.
+        fn repeated(text: &str, times: usize) -> String {
+            text.try_repeat(times).expect("there is room")
+        }
+
         #[test]
         fn takes_a_script_of_at_most_the_limit() {
-            let spaces = " ".try_repeat(1_048_576).expect("there is room");
-            let mut reader = Source::of(spaces.as_bytes());
-            prints(&mut reader, "", Status::Answered);
+            let spaces = repeated(" ", 1_048_576);
+            answers(spaces.as_str(), "");
             for text in [" ", "x"] {
-                let script = text.try_repeat(LIMIT + 1).expect("there is room");
+                let script = repeated(text, LIMIT + 1);
                 is_bad(script.as_bytes(), "script too long\n");
             }
         }
@@ -918,8 +927,8 @@ mod script {
     }
     mod streams {
         //! A reader and a writer that can fail, and how a replay over them ends.
-        use super::{METERED, prints, same, same_text};
-        use crate::proved::script::{Status, replay};
+        use super::{METERED, prints};
+        use crate::proved::script::Status;
         use crate::rattle::Vec;
         use std::io;
         use std::io::{ErrorKind, Read, Write};
@@ -994,7 +1003,8 @@ mod script {
             for good_turns in [0, 1] {
                 let mut reader = Source::of(METERED.text.as_bytes());
                 reader.good_turns = good_turns;
-                prints(&mut reader, "read fault\n", Status::Fault);
+                let writer = Target::new();
+                prints(reader, writer, b"read fault\n", Status::Fault);
             }
         }
 
@@ -1002,14 +1012,11 @@ mod script {
         fn an_error_of_a_writer_is_a_fault() {
             for room in 0..METERED.printed.len() {
                 for fails in [true, false] {
-                    let mut reader = Source::of(METERED.text.as_bytes());
+                    let reader = Source::of(METERED.text.as_bytes());
                     let mut writer = Target::new();
-                    writer.room = room;
-                    writer.fails = fails;
-                    let ended = replay(&mut reader, &mut writer);
-                    same("how it ends", ended, Status::Fault);
+                    (writer.room, writer.fails) = (room, fails);
                     let sent = &METERED.printed.as_bytes()[..room];
-                    same_text(writer.text(), sent);
+                    prints(reader, writer, sent, Status::Fault);
                 }
             }
         }
@@ -1030,24 +1037,21 @@ mod script {
     // A script whose calls are answered.
     const METERED: Script = metered! {};
 
-    // Compares a printed text with what it has to be.
-    fn same_text(printed: &[u8], expected: &[u8]) {
-        let (text, wanted) = (str::from_utf8(printed), str::from_utf8(expected));
-        assert!(printed == expected, "{text:?} in place of {wanted:?}");
-    }
-
-    // Runs what the reader gives, and compares what is printed and how it ends.
-    fn prints(reader: &mut Source<'_>, printed: &str, status: Status) {
-        let mut writer = Target::new();
-        let ended = replay(reader, &mut writer);
-        same(printed, ended, status);
-        same_text(writer.text(), printed.as_bytes());
+    // Runs what the reader gives, and compares what the writer takes and how it ends.
+    fn prints(mut reader: Source<'_>, mut writer: Target, printed: &[u8], status: Status) {
+        let ended = replay(&mut reader, &mut writer);
+        let answer = (ended, str::from_utf8(writer.text()));
+        same(
+            "how it ends, its text",
+            answer,
+            (status, str::from_utf8(printed)),
+        );
     }
 
     // Replays a script whose calls are answered, and compares what is printed.
     fn answers(script: &str, printed: &str) {
-        let mut reader = Source::of(script.as_bytes());
-        prints(&mut reader, printed, Status::Answered);
+        let (reader, writer) = (Source::of(script.as_bytes()), Target::new());
+        prints(reader, writer, printed.as_bytes(), Status::Answered);
     }
 
     // Replays scripts whose calls are answered, and compares what is printed.
@@ -1388,70 +1392,54 @@ mod store {
             same_record("the creation alone", &recorder, creation, None);
         }
 
-        /// A growth by a page with so much fuel, under a quota of two pages: how it ends, and what is left
-        /// and held then.
-        struct MeteredGrowth {
+        /// The outcome of a growth, and the fuel that is left.
+        type Paid = (Result<u64, MemoryError>, u64);
+
+        /// Grows a memory page by page on a meter with so much fuel, and compares how each growth ends.
+        fn grows<L: ResourceLimiter>(
+            memory: &mut Memory,
+            limiter: &mut L,
             fuel: u64,
-            outcome: Result<u64, MemoryError>,
-            left: u64,
-            held: u64,
-        }
-
-        static METERED_GROWTHS: [MeteredGrowth; 2] = [
-            MeteredGrowth {
-                fuel: 1000,
-                outcome: Err(OUT_OF_FUEL),
-                left: 1000,
-                held: 65536,
-            },
-            MeteredGrowth {
-                fuel: 1024,
-                outcome: Ok(1),
-                left: 0,
-                held: 131072,
-            },
-        ];
-
-        fn grow_under_quota(row: &MeteredGrowth) {
-            let mut quota = Quota::new(131072, 0);
-            let ty = page_type(1, Some(2));
-            let mut memory = new_memory(ty, &mut quota).expect("a memory");
-            let mut meter = metered(row.fuel);
-            let grown = grow(&mut memory, 1, Some(&mut meter), &mut quota);
-            let answer = (grown, meter.get_fuel(), quota.held_bytes());
-            let expected = (row.outcome, Ok(row.left), row.held);
-            same("a page more: its outcome, fuel, held", answer, expected);
-        }
-
-        #[test]
-        fn quota_bounds_growth() {
-            for row in &METERED_GROWTHS {
-                grow_under_quota(row);
+            growths: &[Paid],
+        ) {
+            let mut meter = metered(fuel);
+            for &(outcome, left) in growths {
+                let grown = grow(memory, 1, Some(&mut meter), limiter);
+                same(
+                    "a page more",
+                    (grown, meter.get_fuel()),
+                    (outcome, Ok(left)),
+                );
             }
         }
 
-        /// Grows a memory of one page to its maximum of two, and then tries one more.
-        fn grow_above_the_maximum<L: ResourceLimiter>(limiter: &mut L) {
-            let ty = page_type(1, Some(2));
-            let mut memory = new_memory(ty, limiter).expect("a memory");
-            let mut meter = metered(1024);
-            let first = grow(&mut memory, 1, Some(&mut meter), limiter);
-            let second = grow(&mut memory, 1, Some(&mut meter), limiter);
-            let answer = (first, second, memory.size(), meter.get_fuel());
-            let expected = (Ok(1), Err(OUT_OF_BOUNDS), 2, Ok(0));
-            same("to the maximum, above it, size, fuel", answer, expected);
+        /// Fuel, the growths that it has to pay for, and the bytes that the quota then holds.
+        static METERED_GROWTHS: [(u64, &[Paid], u64); 2] = [
+            (1000, &[(Err(OUT_OF_FUEL), 1000)], 65536),
+            (1024, &TO_THE_MAXIMUM, 131072),
+        ];
+
+        /// A page more, to the maximum, and one above it.
+        const TO_THE_MAXIMUM: [Paid; 2] = [(Ok(1), 0), (Err(OUT_OF_BOUNDS), 0)];
+
+        #[test]
+        fn quota_bounds_growth() {
+            for &(fuel, growths, held) in &METERED_GROWTHS {
+                let mut quota = Quota::new(131072, 0);
+                let ty = page_type(1, Some(2));
+                let mut memory = new_memory(ty, &mut quota).expect("a memory");
+                grows(&mut memory, &mut quota, fuel, growths);
+                same("held", quota.held_bytes(), held);
+            }
         }
 
         #[test]
         fn growth_above_the_maximum_asks_no_limiter() {
             let mut recorder = Recorder::new(Ok(true), Ok(()));
-            grow_above_the_maximum(&mut recorder);
-            let last = memory_question(65536, 131072, Some(131072));
-            let record = (recorder.question, recorder.questions, recorder.notices);
-            same("the last question, and numbers", record, (last, 2, 0));
-            let mut quota = Quota::new(131072, 0);
-            grow_above_the_maximum(&mut quota);
-            same("held", quota.held_bytes(), 131072);
+            let mut memory = ample_memory(page_type(1, Some(2)));
+            grows(&mut memory, &mut recorder, 1024, &TO_THE_MAXIMUM);
+            let question = memory_question(65536, 131072, Some(131072));
+            same_record("the first growth alone", &recorder, question, None);
         }
 
         #[test]
@@ -1463,28 +1451,26 @@ mod store {
             }
         }
 
-        /// A limiter's answers to the question and to the notice of a growth without enough fuel, and how
-        /// the growth ends.
+        /// A limiter's answers to the question and to the notice of a growth without enough fuel, how the
+        /// growth ends, and the notices.
         static REFUSALS: [(
             Result<bool, LimiterError>,
             Result<(), LimiterError>,
-            MemoryError,
+            Paid,
+            u32,
         ); 3] = [
-            (Ok(false), Ok(()), OUT_OF_BOUNDS),
-            (Err(COMPLAINT), Ok(()), DENIED),
-            (Ok(true), Err(COMPLAINT), DENIED),
+            (Ok(false), Ok(()), (Err(OUT_OF_BOUNDS), 1000), 0),
+            (Err(COMPLAINT), Ok(()), (Err(DENIED), 1000), 0),
+            (Ok(true), Err(COMPLAINT), (Err(DENIED), 1000), 1),
         ];
 
         #[test]
         fn a_limiter_refuses_growths() {
-            for &(answer, notice_answer, error) in &REFUSALS {
+            for &(answer, notice_answer, growth, notices) in &REFUSALS {
                 let mut memory = ample_memory(page_type(1, Some(2)));
-                let mut meter = metered(1000);
                 let mut recorder = Recorder::new(answer, notice_answer);
-                let grown = grow(&mut memory, 1, Some(&mut meter), &mut recorder);
-                let ended = (grown, meter.get_fuel(), recorder.notices);
-                let notices = u32::from(answer == Ok(true));
-                same("a growth", ended, (Err(error), Ok(1000), notices));
+                grows(&mut memory, &mut recorder, 1000, &[growth]);
+                same("notices", recorder.notices, notices);
             }
         }
 
@@ -1499,23 +1485,25 @@ mod store {
             same("a read, a write", answers, [refused; 2]);
         }
 
+        /// A page in the region, and one more.
+        static IN_ONE_PAGE: [Paid; 2] = [
+            (Ok(0), 1024),
+            (Err(MemoryError::InvalidStaticBufferSize), 1024),
+        ];
+
         #[test]
         fn a_region_of_one_page_holds_one() {
             let mut region = [7; 65536];
+            let mut recorder = Recorder::new(Ok(true), Ok(()));
             let ty = page_type(0, Some(2));
             let mut memory = lent_memory(ty, &mut NoLimits, &mut region).expect("a memory");
-            let mut meter = metered(2048);
-            let first = grow(&mut memory, 1, Some(&mut meter), &mut NoLimits);
-            same("a page", (first, meter.get_fuel()), (Ok(0), Ok(1024)));
+            grows(&mut memory, &mut recorder, 2048, &IN_ONE_PAGE);
             same("bytes", memory.data(), [0; 65536].as_slice());
-            let mut recorder = Recorder::new(Ok(true), Ok(()));
-            let second = grow(&mut memory, 1, Some(&mut meter), &mut recorder);
-            let too_short = MemoryError::InvalidStaticBufferSize;
-            let ended = (second, meter.get_fuel());
-            same("one more", ended, (Err(too_short), Ok(1024)));
             let question = memory_question(65536, 131072, Some(131072));
-            let notice = Some(Failure::Memory(too_short));
-            same_record("one more", &recorder, question, notice);
+            let last = (recorder.questions, recorder.question, recorder.notices);
+            same("questions", last, (2, question, 1));
+            let too_short = Failure::Memory(MemoryError::InvalidStaticBufferSize);
+            same("the notice", recorder.notice, Some(too_short));
         }
 
         #[test]
@@ -1525,6 +1513,23 @@ mod store {
             let made = lent_memory(ty, &mut NoLimits, &mut region).err();
             let expected = (Some(MemoryError::InvalidStaticBufferSize), [7; 4]);
             same("the error, the bytes", (made, region), expected);
+        }
+
+        /// How many bytes a buffer grows by, how that ends, and the bytes then.
+        type Growth<'a> = (usize, Result<(), MemoryError>, &'a [u8]);
+
+        /// Compares the bytes of a new buffer, and then those after each growth.
+        fn buffer_grows(made: Result<ByteBuffer, MemoryError>, bytes: &[u8], growths: &[Growth]) {
+            let mut buffer = made.expect("a buffer");
+            same("the bytes at first", buffer.data(), bytes);
+            for &(more, outcome, bytes) in growths {
+                let grown = buffer.grow(buffer.len().saturating_add(more));
+                same(
+                    "a growth, the bytes",
+                    (grown, buffer.data()),
+                    (outcome, bytes),
+                );
+            }
         }
 
         #[test]
@@ -1544,41 +1549,37 @@ mod store {
 
         #[test]
         fn test_growing_buffer() {
-            let mut buffer = ByteBuffer::new(5).expect("a buffer");
-            buffer.grow(10).expect("ten");
-            same("zeros", buffer.data(), [0; 10].as_slice());
+            let made = ByteBuffer::new(5);
+            buffer_grows(made, &[0; 5], &[(5, Ok(()), &[0; 10])]);
         }
+
+        /// No byte and one byte can't grow to all addresses.
+        static WITHOUT_MEMORY: [Growth; 3] = [
+            (usize::MAX, Err(MemoryError::OutOfSystemMemory), &[]),
+            (1, Ok(()), &[0]),
+            (usize::MAX, Err(MemoryError::OutOfSystemMemory), &[0]),
+        ];
 
         #[test]
         fn out_of_memory_works() {
-            let refused = Err(MemoryError::OutOfSystemMemory);
-            let mut buffer = ByteBuffer::new(0).expect("a buffer");
-            let from_no_byte = buffer.grow(usize::MAX);
-            assert!(buffer.len() == 0);
-            buffer.grow(1).expect("one");
-            let answers = [from_no_byte, buffer.grow(usize::MAX)];
-            same("from no byte, from one", answers, [refused; 2]);
-            same("one byte", buffer.data(), [0].as_slice());
+            let made = ByteBuffer::new(0);
+            buffer_grows(made, &[], &WITHOUT_MEMORY);
         }
 
         #[test]
         fn test_growing_static() {
             let mut region = [7; 10];
-            let mut buffer = ByteBuffer::new_static(&mut region, 5).expect("a buffer");
-            same("five", buffer.data(), [0; 5].as_slice());
-            buffer.grow(8).expect("eight");
-            same("eight", buffer.data(), [0; 8].as_slice());
-            buffer.grow(10).expect("ten");
-            same("ten", buffer.data(), [0; 10].as_slice());
+            let made = ByteBuffer::new_static(&mut region, 5);
+            let growths: [Growth; 2] = [(3, Ok(()), &[0; 8]), (2, Ok(()), &[0; 10])];
+            buffer_grows(made, &[0; 5], &growths);
         }
 
         #[test]
         fn test_static_buffer_overflow() {
             let mut region = [7; 5];
-            let mut buffer = ByteBuffer::new_static(&mut region, 5).expect("a buffer");
+            let made = ByteBuffer::new_static(&mut region, 5);
             let refused = Err(MemoryError::InvalidStaticBufferSize);
-            same("ten of five", buffer.grow(10), refused);
-            same("five", buffer.data(), [0; 5].as_slice());
+            buffer_grows(made, &[0; 5], &[(5, refused, &[0; 5])]);
         }
 
         #[test]
@@ -1590,17 +1591,6 @@ mod store {
             drop(buffer);
             let found = [1, 0, 0, 0, 0, 7, 7, 7, 7, 7];
             same("the lender's bytes", region, found);
-        }
-
-        #[test]
-        fn only_a_shorter_region_has_no_room() {
-            let mut region = [7; 10];
-            let lent = ByteBuffer::new_static(&mut region, 5).expect("a buffer");
-            let owned = ByteBuffer::new(5).expect("a buffer");
-            for size in [0, 5, 10, 11, usize::MAX] {
-                let rooms = (size, lent.has_room(size), owned.has_room(size));
-                same("room", rooms, (size, size <= 10, true));
-            }
         }
 
         /// A caller that writes through what a memory lends, and knows the memory afterwards.
@@ -1632,12 +1622,12 @@ mod store {
     mod tables {
         //! Tables: their types, and how they grow, are filled, copied and initialized; element segments,
         //! and the iterators that they are read of.
-        use super::limiters::{COMPLAINT, Failure, Recorder, same_record, table_question};
+        use super::limiters::{COMPLAINT, Failure, Question, Recorder, same_record};
         use super::{
             SUBTYPES, external, five_functions, func, metered, metered_at, same, same_elements,
             table_of,
         };
-        use crate::proved::meter::{Fuel, LimiterError, ResourceLimiterRef, TableError};
+        use crate::proved::meter::{Fuel, Kind, LimiterError, ResourceLimiterRef, TableError};
         use crate::proved::raw::RawRef;
         use crate::proved::store::{ElementSegment, Table, TableType};
         use crate::proved::types::RefType;
@@ -1677,18 +1667,104 @@ mod store {
 
         const OUT_OF_BOUNDS: TableError = TableError::GrowOutOfBounds;
 
-        #[test]
-        fn a_growth_above_the_maximum_is_asked_for() {
-            let ty = TableType::new(RefType::Func, 1, Some(2));
+        /// A growth of a table of one element: the maximum, by how many elements, the limiter's answer, how
+        /// the growth ends, and what the limiter is asked and told.
+        struct Growth {
+            maximum: Option<u32>,
+            delta: u64,
+            answer: Result<bool, LimiterError>,
+            error: TableError,
+            question: Option<Question>,
+            notice: Option<Failure>,
+        }
+
+        /// Grows a table, and compares how that ends. No fuel is taken.
+        fn grows(growth: &Growth) {
+            let ty = func_type((1, growth.maximum));
             let mut table = table_of(ty, func(1));
             let mut meter = metered(7);
-            let mut recorder = Recorder::new(Ok(true), Ok(()));
-            let grown = grow_raw(&mut table, 2, Some(&mut meter), &mut recorder);
+            let mut recorder = Recorder::new(growth.answer, Ok(()));
+            let grown = grow_raw(&mut table, growth.delta, Some(&mut meter), &mut recorder);
             let ended = (grown, meter.get_fuel());
-            same("by 2", ended, (Err(OUT_OF_BOUNDS), Ok(7)));
-            let question = table_question(1, 3, Some(2));
-            let notice = Some(Failure::Table(OUT_OF_BOUNDS));
-            same_record("by 2", &recorder, question, notice);
+            same("a growth", ended, (Err(growth.error), Ok(7)));
+            same_record("a growth", &recorder, growth.question, growth.notice);
+        }
+
+        static ABOVE_THE_MAXIMUM: Growth = Growth {
+            maximum: Some(2),
+            delta: 2,
+            answer: Ok(true),
+            error: OUT_OF_BOUNDS,
+            question: Some(Question {
+                kind: Kind::Elements,
+                current: 1,
+                desired: 3,
+                maximum: Some(2),
+            }),
+            notice: Some(Failure::Table(OUT_OF_BOUNDS)),
+        };
+
+        #[test]
+        fn a_growth_above_the_maximum_is_asked_for() {
+            grows(&ABOVE_THE_MAXIMUM);
+        }
+
+        /// To as many elements as there are indices, to one less, and what a limiter refuses.
+        static REFUSED: [Growth; 4] = [
+            Growth {
+                maximum: None,
+                delta: 4294967295,
+                answer: Ok(false),
+                error: OUT_OF_BOUNDS,
+                question: None,
+                notice: None,
+            },
+            Growth {
+                maximum: None,
+                delta: 4294967294,
+                answer: Ok(false),
+                error: OUT_OF_BOUNDS,
+                question: Some(Question {
+                    kind: Kind::Elements,
+                    current: 1,
+                    desired: 4294967295,
+                    maximum: None,
+                }),
+                notice: None,
+            },
+            Growth {
+                maximum: None,
+                delta: 1,
+                answer: Ok(false),
+                error: OUT_OF_BOUNDS,
+                question: Some(Question {
+                    kind: Kind::Elements,
+                    current: 1,
+                    desired: 2,
+                    maximum: None,
+                }),
+                notice: None,
+            },
+            Growth {
+                maximum: None,
+                delta: 1,
+                answer: Err(COMPLAINT),
+                error: TableError::ResourceLimiterDeniedAllocation,
+                question: Some(Question {
+                    kind: Kind::Elements,
+                    current: 1,
+                    desired: 2,
+                    maximum: None,
+                }),
+                notice: None,
+            },
+        ];
+
+        #[test]
+        fn a_limiter_refuses_growths() {
+            for growth in &REFUSED {
+                grows(growth);
+            }
         }
 
         #[test]
@@ -1706,37 +1782,6 @@ mod store {
             let expected = [mismatch, Ok(1), Ok(1)];
             same("another, the same, no type", answers, expected);
             same_record("nobody is asked", &recorder, None, None);
-        }
-
-        #[test]
-        fn stays_below_the_number_of_indices() {
-            let ty = TableType::new(RefType::Func, 1, None);
-            let mut table = table_of(ty, func(1));
-            let mut recorder = Recorder::new(Ok(false), Ok(()));
-            let first = grow_raw(&mut table, 4294967295, None, &mut recorder);
-            same_record("as many as indices", &recorder, None, None);
-            let second = grow_raw(&mut table, 4294967294, None, &mut recorder);
-            let question = table_question(1, 4294967295, None);
-            same_record("one less", &recorder, question, None);
-            let (answers, expected) = ([first, second], [Err(OUT_OF_BOUNDS); 2]);
-            same("as many as indices, one less", answers, expected);
-        }
-
-        /// A limiter's answer, and how the growth of a table ends.
-        static REFUSALS: [(Result<bool, LimiterError>, TableError); 2] = [
-            (Ok(false), OUT_OF_BOUNDS),
-            (Err(COMPLAINT), TableError::ResourceLimiterDeniedAllocation),
-        ];
-
-        #[test]
-        fn a_limiter_refuses_growths() {
-            let ty = TableType::new(RefType::Func, 1, None);
-            let mut table = table_of(ty, func(1));
-            for &(answer, error) in &REFUSALS {
-                let mut recorder = Recorder::new(answer, Ok(()));
-                let grown = grow_raw(&mut table, 1, None, &mut recorder);
-                same("a growth", grown, Err(error));
-            }
         }
 
         /// Copies within a table of the functions 1 to 5: to, from, how many, and the elements then.
@@ -1757,15 +1802,16 @@ mod store {
         fn refuses_what_is_past_the_table() {
             let mut table = five_functions();
             let mut meter = metered_at(1, 100);
-            for (to, from, len) in [(u64::MAX, 0, 1), (0, 0, u64::MAX)] {
-                let copied = table.copy_within(to, from, len, Some(&mut meter));
-                same("a copy", copied, Err(TableError::CopyOutOfBounds));
-            }
-            for (to, len) in [(4, 2), (u64::MAX, 1)] {
-                let filled = table.fill_raw(to, RawRef::from(9), len, Some(&mut meter));
-                same("a fill", filled, Err(TableError::FillOutOfBounds));
-            }
-            same("nothing is charged", meter.get_fuel(), Ok(100));
+            let answers = [
+                table.copy_within(u64::MAX, 0, 1, Some(&mut meter)),
+                table.copy_within(0, 0, u64::MAX, Some(&mut meter)),
+                table.fill_raw(4, RawRef::from(9), 2, Some(&mut meter)),
+                table.fill_raw(u64::MAX, RawRef::from(9), 1, Some(&mut meter)),
+            ];
+            let copy = Err(TableError::CopyOutOfBounds);
+            let fill = Err(TableError::FillOutOfBounds);
+            let expected = ([copy, copy, fill, fill], Ok(100));
+            same("copies, fills, fuel", (answers, meter.get_fuel()), expected);
             same_elements("unchanged", &table, [1, 2, 3, 4, 5]);
         }
 
@@ -1782,9 +1828,9 @@ mod store {
             let out_of_fuel = TableError::OutOfFuel {
                 required_fuel: u64::MAX,
             };
-            let expected = [Ok(()), Err(out_of_fuel)];
-            same("an initialization, a copy", answers, expected);
-            same("the fuel", meter.get_fuel(), Ok(10));
+            let answer = (answers, meter.get_fuel());
+            let expected = ([Ok(()), Err(out_of_fuel)], Ok(10));
+            same("an initialization, a copy, fuel", answer, expected);
         }
 
         /// Gives two references, then `None` once, then references without end.

@@ -114,11 +114,15 @@ fn another_limiter_reserves(rt: HostRuntime) {
     let replies = replies.expect(&rt, "there is room");
     same(&rt, "replies", replies.as_slice(), expected.as_slice());
     let held = (allowance.held_bytes(), allowance.held_elements());
-    same(&rt, "what is held", held, (196608, 3));
     let totals = (machine.total_bytes(), machine.total_elements());
-    same(&rt, "the totals", totals, (196608, 3));
-    same(&rt, "the growths that are left", allowance.growths, 0);
-    drop(machine);
+    let answer = (held, totals, allowance.growths);
+    let expected = ((196608, 3), (196608, 3), 0);
+    same(
+        &rt,
+        "what is held, the totals, growths left",
+        answer,
+        expected,
+    );
 }
 
 /// Answers questions by the bits of one number, two for each, and notices by the bits of another,
@@ -223,11 +227,10 @@ fn grows_by_random_answers(
     let mut limiter = random;
     let replies = run_lending(&mut machine, &calls, &mut limiter).ok();
     same(rt, "the replies", replies, Some(expected));
-    same(rt, "the questions", limiter.questions, 32);
-    same(rt, "the limiter", limiter, foretold);
     let size = machine.memory(0).map(|memory| memory.size());
-    same(rt, "the pages", size, Some(pages));
-    drop(machine);
+    let answer = (limiter.questions, limiter, size);
+    let expected = (32, foretold, Some(pages));
+    same(rt, "questions, limiter, pages", answer, expected);
     pages
 }
 
@@ -253,10 +256,17 @@ fn a_run_without_room_does_nothing(rt: HostRuntime) {
         Ok(_replies) => (1, 7, 3),
         Err(_) => (0, 0, 0),
     };
-    same(&rt, "the questions", random.questions, questions);
-    same(&rt, "the fuel", machine.fuel().get_fuel(), Ok(fuel));
-    same(&rt, "the bytes", machine.total_bytes(), bytes);
-    drop(machine);
+    let answer = (
+        random.questions,
+        machine.fuel().get_fuel(),
+        machine.total_bytes(),
+    );
+    same(
+        &rt,
+        "questions, fuel, bytes",
+        answer,
+        (questions, Ok(fuel), bytes),
+    );
 }
 
 #[test]

@@ -1,6 +1,6 @@
 //! Lines that are no commands, and scripts that are too long.
-use super::prints;
-use super::streams::Source;
+use super::streams::{Source, Target};
+use super::{answers, prints};
 use std::alloc::Global;
 use std::process::Abort;
 use wasmi_script::{LIMIT, Status};
@@ -33,8 +33,15 @@ static BAD_LINES: [(&[u8], &str); 17] = [
 ];
 
 fn is_bad<R: Abort>(rt: &R, alloc: Global, script: &[u8], printed: &str) {
-    let mut reader = Source::of(script);
-    prints(rt, alloc, &mut reader, printed, Status::BadScript);
+    let (reader, writer) = (Source::of(script), Target::new(alloc));
+    prints(
+        rt,
+        alloc,
+        reader,
+        writer,
+        printed.as_bytes(),
+        Status::BadScript,
+    );
 }
 
 #[test]
@@ -44,17 +51,17 @@ fn names_the_first_bad_line(rt: HostRuntime) {
     }
 }
 
+// A text, so many times.
+fn repeated<R: Abort>(rt: &R, alloc: Global, text: &str, times: usize) -> String {
+    text.repeat(alloc, times).expect(rt, "there is room")
+}
+
 #[test]
 fn takes_a_script_of_at_most_the_limit(rt: HostRuntime) {
-    let spaces = " "
-        .repeat(rt.alloc(), 1_048_576)
-        .expect(&rt, "there is room");
-    let mut reader = Source::of(spaces.as_bytes());
-    prints(&rt, rt.alloc(), &mut reader, "", Status::Answered);
+    let spaces = repeated(&rt, rt.alloc(), " ", 1_048_576);
+    answers(&rt, rt.alloc(), spaces.as_str(), "");
     for text in [" ", "x"] {
-        let script = text
-            .repeat(rt.alloc(), LIMIT + 1)
-            .expect(&rt, "there is room");
+        let script = repeated(&rt, rt.alloc(), text, LIMIT + 1);
         is_bad(&rt, rt.alloc(), script.as_bytes(), "script too long\n");
     }
 }

@@ -1,9 +1,9 @@
 //! A reader and a writer that can fail, and how a replay over them ends.
-use super::{METERED, prints, same, same_text};
+use super::{METERED, prints};
 use std::alloc::Global;
 use std::io;
 use std::io::{ErrorKind, Read, Write};
-use wasmi_script::{Status, replay};
+use wasmi_script::Status;
 
 // A reader of these bytes, at most forty a turn, which fails after so many good turns.
 #[derive(Drop)]
@@ -77,7 +77,15 @@ fn an_error_of_a_reader_is_a_fault(rt: HostRuntime) {
     for good_turns in [0, 1] {
         let mut reader = Source::of(METERED.text.as_bytes());
         reader.good_turns = good_turns;
-        prints(&rt, rt.alloc(), &mut reader, "read fault\n", Status::Fault);
+        let writer = Target::new(rt.alloc());
+        prints(
+            &rt,
+            rt.alloc(),
+            reader,
+            writer,
+            b"read fault\n",
+            Status::Fault,
+        );
     }
 }
 
@@ -85,14 +93,11 @@ fn an_error_of_a_reader_is_a_fault(rt: HostRuntime) {
 fn an_error_of_a_writer_is_a_fault(rt: HostRuntime) {
     for room in 0..METERED.printed.len() {
         for fails in [true, false] {
-            let mut reader = Source::of(METERED.text.as_bytes());
+            let reader = Source::of(METERED.text.as_bytes());
             let mut writer = Target::new(rt.alloc());
-            writer.room = room;
-            writer.fails = fails;
-            let ended = replay(rt.alloc(), &mut reader, &mut writer);
-            same(&rt, "how it ends", ended, Status::Fault);
+            (writer.room, writer.fails) = (room, fails);
             let sent = &METERED.printed.as_bytes()[..room];
-            same_text(&rt, writer.text(), sent);
+            prints(&rt, rt.alloc(), reader, writer, sent, Status::Fault);
         }
     }
 }

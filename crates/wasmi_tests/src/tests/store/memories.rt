@@ -49,70 +49,56 @@ fn all_addresses_are_too_many(rt: HostRuntime) {
     same_record(&rt, "the creation alone", &recorder, creation, None);
 }
 
-/// A growth by a page with so much fuel, under a quota of two pages: how it ends, and what is left
-/// and held then.
-struct MeteredGrowth {
+/// The outcome of a growth, and the fuel that is left.
+type Paid = (Result<u64, MemoryError>, u64);
+
+/// Grows a memory page by page on a meter with so much fuel, and compares how each growth ends.
+fn grows<L: ResourceLimiter>(
+    rt: &impl Abort,
+    memory: &mut Memory,
+    limiter: &mut L,
     fuel: u64,
-    outcome: Result<u64, MemoryError>,
-    left: u64,
-    held: u64,
-}
-
-static METERED_GROWTHS: [MeteredGrowth; 2] = [
-    MeteredGrowth {
-        fuel: 1000,
-        outcome: Err(OUT_OF_FUEL),
-        left: 1000,
-        held: 65536,
-    },
-    MeteredGrowth {
-        fuel: 1024,
-        outcome: Ok(1),
-        left: 0,
-        held: 131072,
-    },
-];
-
-fn grow_under_quota(rt: &impl Abort, alloc: Global, row: &MeteredGrowth) {
-    let mut quota = Quota::new(131072, 0);
-    let ty = page_type(rt, 1, Some(2));
-    let mut memory = new_memory(alloc, ty, &mut quota).expect(rt, "a memory");
-    let mut meter = metered(row.fuel);
-    let grown = grow(&mut memory, 1, Some(&mut meter), &mut quota);
-    let answer = (grown, meter.get_fuel(), quota.held_bytes());
-    let expected = (row.outcome, Ok(row.left), row.held);
-    same(rt, "a page more: its outcome, fuel, held", answer, expected);
-}
-
-#[test]
-fn quota_bounds_growth(rt: HostRuntime) {
-    for row in &METERED_GROWTHS {
-        grow_under_quota(&rt, rt.alloc(), row);
+    growths: &[Paid],
+) {
+    let mut meter = metered(fuel);
+    for &(outcome, left) in growths {
+        let grown = grow(memory, 1, Some(&mut meter), limiter);
+        same(
+            rt,
+            "a page more",
+            (grown, meter.get_fuel()),
+            (outcome, Ok(left)),
+        );
     }
 }
 
-/// Grows a memory of one page to its maximum of two, and then tries one more.
-fn grow_above_the_maximum<L: ResourceLimiter>(rt: &impl Abort, alloc: Global, limiter: &mut L) {
-    let ty = page_type(rt, 1, Some(2));
-    let mut memory = new_memory(alloc, ty, limiter).expect(rt, "a memory");
-    let mut meter = metered(1024);
-    let first = grow(&mut memory, 1, Some(&mut meter), limiter);
-    let second = grow(&mut memory, 1, Some(&mut meter), limiter);
-    let answer = (first, second, memory.size(), meter.get_fuel());
-    let expected = (Ok(1), Err(OUT_OF_BOUNDS), 2, Ok(0));
-    same(rt, "to the maximum, above it, size, fuel", answer, expected);
+/// Fuel, the growths that it has to pay for, and the bytes that the quota then holds.
+static METERED_GROWTHS: [(u64, &[Paid], u64); 2] = [
+    (1000, &[(Err(OUT_OF_FUEL), 1000)], 65536),
+    (1024, &TO_THE_MAXIMUM, 131072),
+];
+
+/// A page more, to the maximum, and one above it.
+const TO_THE_MAXIMUM: [Paid; 2] = [(Ok(1), 0), (Err(OUT_OF_BOUNDS), 0)];
+
+#[test]
+fn quota_bounds_growth(rt: HostRuntime) {
+    for &(fuel, growths, held) in &METERED_GROWTHS {
+        let mut quota = Quota::new(131072, 0);
+        let ty = page_type(&rt, 1, Some(2));
+        let mut memory = new_memory(rt.alloc(), ty, &mut quota).expect(&rt, "a memory");
+        grows(&rt, &mut memory, &mut quota, fuel, growths);
+        same(&rt, "held", quota.held_bytes(), held);
+    }
 }
 
 #[test]
 fn growth_above_the_maximum_asks_no_limiter(rt: HostRuntime) {
     let mut recorder = Recorder::new(Ok(true), Ok(()));
-    grow_above_the_maximum(&rt, rt.alloc(), &mut recorder);
-    let last = memory_question(65536, 131072, Some(131072));
-    let record = (recorder.question, recorder.questions, recorder.notices);
-    same(&rt, "the last question, and numbers", record, (last, 2, 0));
-    let mut quota = Quota::new(131072, 0);
-    grow_above_the_maximum(&rt, rt.alloc(), &mut quota);
-    same(&rt, "held", quota.held_bytes(), 131072);
+    let mut memory = ample_memory(&rt, rt.alloc(), page_type(&rt, 1, Some(2)));
+    grows(&rt, &mut memory, &mut recorder, 1024, &TO_THE_MAXIMUM);
+    let question = memory_question(65536, 131072, Some(131072));
+    same_record(&rt, "the first growth alone", &recorder, question, None);
 }
 
 #[test]
@@ -124,28 +110,26 @@ fn a_limiter_refuses_creations(rt: HostRuntime) {
     }
 }
 
-/// A limiter's answers to the question and to the notice of a growth without enough fuel, and how
-/// the growth ends.
+/// A limiter's answers to the question and to the notice of a growth without enough fuel, how the
+/// growth ends, and the notices.
 static REFUSALS: [(
     Result<bool, LimiterError>,
     Result<(), LimiterError>,
-    MemoryError,
+    Paid,
+    u32,
 ); 3] = [
-    (Ok(false), Ok(()), OUT_OF_BOUNDS),
-    (Err(COMPLAINT), Ok(()), DENIED),
-    (Ok(true), Err(COMPLAINT), DENIED),
+    (Ok(false), Ok(()), (Err(OUT_OF_BOUNDS), 1000), 0),
+    (Err(COMPLAINT), Ok(()), (Err(DENIED), 1000), 0),
+    (Ok(true), Err(COMPLAINT), (Err(DENIED), 1000), 1),
 ];
 
 #[test]
 fn a_limiter_refuses_growths(rt: HostRuntime) {
-    for &(answer, notice_answer, error) in &REFUSALS {
+    for &(answer, notice_answer, growth, notices) in &REFUSALS {
         let mut memory = ample_memory(&rt, rt.alloc(), page_type(&rt, 1, Some(2)));
-        let mut meter = metered(1000);
         let mut recorder = Recorder::new(answer, notice_answer);
-        let grown = grow(&mut memory, 1, Some(&mut meter), &mut recorder);
-        let ended = (grown, meter.get_fuel(), recorder.notices);
-        let notices = u32::from(answer == Ok(true));
-        same(&rt, "a growth", ended, (Err(error), Ok(1000), notices));
+        grows(&rt, &mut memory, &mut recorder, 1000, &[growth]);
+        same(&rt, "notices", recorder.notices, notices);
     }
 }
 
@@ -160,23 +144,25 @@ fn the_greatest_address_is_past_the_end(rt: HostRuntime) {
     same(&rt, "a read, a write", answers, [refused; 2]);
 }
 
+/// A page in the region, and one more.
+static IN_ONE_PAGE: [Paid; 2] = [
+    (Ok(0), 1024),
+    (Err(MemoryError::InvalidStaticBufferSize), 1024),
+];
+
 #[test]
 fn a_region_of_one_page_holds_one(rt: HostRuntime) {
     let mut region = [7; 65536];
+    let mut recorder = Recorder::new(Ok(true), Ok(()));
     let ty = page_type(&rt, 0, Some(2));
     let mut memory = lent_memory(ty, &mut NoLimits, &mut region).expect(&rt, "a memory");
-    let mut meter = metered(2048);
-    let first = grow(&mut memory, 1, Some(&mut meter), &mut NoLimits);
-    same(&rt, "a page", (first, meter.get_fuel()), (Ok(0), Ok(1024)));
+    grows(&rt, &mut memory, &mut recorder, 2048, &IN_ONE_PAGE);
     same(&rt, "bytes", memory.data(), [0; 65536].as_slice());
-    let mut recorder = Recorder::new(Ok(true), Ok(()));
-    let second = grow(&mut memory, 1, Some(&mut meter), &mut recorder);
-    let too_short = MemoryError::InvalidStaticBufferSize;
-    let ended = (second, meter.get_fuel());
-    same(&rt, "one more", ended, (Err(too_short), Ok(1024)));
     let question = memory_question(65536, 131072, Some(131072));
-    let notice = Some(Failure::Memory(too_short));
-    same_record(&rt, "one more", &recorder, question, notice);
+    let last = (recorder.questions, recorder.question, recorder.notices);
+    same(&rt, "questions", last, (2, question, 1));
+    let too_short = Failure::Memory(MemoryError::InvalidStaticBufferSize);
+    same(&rt, "the notice", recorder.notice, Some(too_short));
 }
 
 #[test]
@@ -186,6 +172,29 @@ fn a_short_region_is_left_as_it_was(rt: HostRuntime) {
     let made = lent_memory(ty, &mut NoLimits, &mut region).err();
     let expected = (Some(MemoryError::InvalidStaticBufferSize), [7; 4]);
     same(&rt, "the error, the bytes", (made, region), expected);
+}
+
+/// How many bytes a buffer grows by, how that ends, and the bytes then.
+type Growth<'a> = (usize, Result<(), MemoryError>, &'a [u8]);
+
+/// Compares the bytes of a new buffer, and then those after each growth.
+fn buffer_grows(
+    rt: &impl Abort,
+    made: Result<ByteBuffer, MemoryError>,
+    bytes: &[u8],
+    growths: &[Growth],
+) {
+    let mut buffer = made.expect(rt, "a buffer");
+    same(rt, "the bytes at first", buffer.data(), bytes);
+    for &(more, outcome, bytes) in growths {
+        let grown = buffer.grow(buffer.len().saturating_add(more));
+        same(
+            rt,
+            "a growth, the bytes",
+            (grown, buffer.data()),
+            (outcome, bytes),
+        );
+    }
 }
 
 #[test]
@@ -205,41 +214,37 @@ fn test_basic_data_manipulation(rt: HostRuntime) {
 
 #[test]
 fn test_growing_buffer(rt: HostRuntime) {
-    let mut buffer = ByteBuffer::new(rt.alloc(), 5).expect(&rt, "a buffer");
-    buffer.grow(10).expect(&rt, "ten");
-    same(&rt, "zeros", buffer.data(), [0; 10].as_slice());
+    let made = ByteBuffer::new(rt.alloc(), 5);
+    buffer_grows(&rt, made, &[0; 5], &[(5, Ok(()), &[0; 10])]);
 }
+
+/// No byte and one byte can't grow to all addresses.
+static WITHOUT_MEMORY: [Growth; 3] = [
+    (usize::MAX, Err(MemoryError::OutOfSystemMemory), &[]),
+    (1, Ok(()), &[0]),
+    (usize::MAX, Err(MemoryError::OutOfSystemMemory), &[0]),
+];
 
 #[test]
 fn out_of_memory_works(rt: HostRuntime) {
-    let refused = Err(MemoryError::OutOfSystemMemory);
-    let mut buffer = ByteBuffer::new(rt.alloc(), 0).expect(&rt, "a buffer");
-    let from_no_byte = buffer.grow(usize::MAX);
-    assert!(rt; buffer.len() == 0);
-    buffer.grow(1).expect(&rt, "one");
-    let answers = [from_no_byte, buffer.grow(usize::MAX)];
-    same(&rt, "from no byte, from one", answers, [refused; 2]);
-    same(&rt, "one byte", buffer.data(), [0].as_slice());
+    let made = ByteBuffer::new(rt.alloc(), 0);
+    buffer_grows(&rt, made, &[], &WITHOUT_MEMORY);
 }
 
 #[test]
 fn test_growing_static(rt: HostRuntime) {
     let mut region = [7; 10];
-    let mut buffer = ByteBuffer::new_static(&mut region, 5).expect(&rt, "a buffer");
-    same(&rt, "five", buffer.data(), [0; 5].as_slice());
-    buffer.grow(8).expect(&rt, "eight");
-    same(&rt, "eight", buffer.data(), [0; 8].as_slice());
-    buffer.grow(10).expect(&rt, "ten");
-    same(&rt, "ten", buffer.data(), [0; 10].as_slice());
+    let made = ByteBuffer::new_static(&mut region, 5);
+    let growths: [Growth; 2] = [(3, Ok(()), &[0; 8]), (2, Ok(()), &[0; 10])];
+    buffer_grows(&rt, made, &[0; 5], &growths);
 }
 
 #[test]
 fn test_static_buffer_overflow(rt: HostRuntime) {
     let mut region = [7; 5];
-    let mut buffer = ByteBuffer::new_static(&mut region, 5).expect(&rt, "a buffer");
+    let made = ByteBuffer::new_static(&mut region, 5);
     let refused = Err(MemoryError::InvalidStaticBufferSize);
-    same(&rt, "ten of five", buffer.grow(10), refused);
-    same(&rt, "five", buffer.data(), [0; 5].as_slice());
+    buffer_grows(&rt, made, &[0; 5], &[(5, refused, &[0; 5])]);
 }
 
 #[test]
@@ -251,17 +256,6 @@ fn test_static_buffer_initialization(rt: HostRuntime) {
     drop(buffer);
     let found = [1, 0, 0, 0, 0, 7, 7, 7, 7, 7];
     same(&rt, "the lender's bytes", region, found);
-}
-
-#[test]
-fn only_a_shorter_region_has_no_room(rt: HostRuntime) {
-    let mut region = [7; 10];
-    let lent = ByteBuffer::new_static(&mut region, 5).expect(&rt, "a buffer");
-    let owned = ByteBuffer::new(rt.alloc(), 5).expect(&rt, "a buffer");
-    for size in [0, 5, 10, 11, usize::MAX] {
-        let rooms = (size, lent.has_room(size), owned.has_room(size));
-        same(&rt, "room", rooms, (size, size <= 10, true));
-    }
 }
 
 /// A caller that writes through what a memory lends, and knows the memory afterwards.

@@ -1,10 +1,12 @@
 //! Tables: their types, and how they grow, are filled, copied and initialized; element segments,
 //! and the iterators that they are read of.
-use super::limiters::{COMPLAINT, Failure, Recorder, same_record, table_question};
+use super::limiters::{COMPLAINT, Failure, Question, Recorder, same_record};
 use super::{
     SUBTYPES, external, five_functions, func, metered, metered_at, same, same_elements, table_of,
 };
-use wasmi_meter::{Fuel, LimiterError, ResourceLimiterRef, TableError};
+use std::alloc::Global;
+use std::process::Abort;
+use wasmi_meter::{Fuel, Kind, LimiterError, ResourceLimiterRef, TableError};
 use wasmi_raw::RawRef;
 use wasmi_store::{ElementSegment, Table, TableType};
 use wasmi_types::RefType;
@@ -44,18 +46,104 @@ fn grow_raw(
 
 const OUT_OF_BOUNDS: TableError = TableError::GrowOutOfBounds;
 
+/// A growth of a table of one element: the maximum, by how many elements, the limiter's answer, how
+/// the growth ends, and what the limiter is asked and told.
+struct Growth {
+    maximum: Option<u32>,
+    delta: u64,
+    answer: Result<bool, LimiterError>,
+    error: TableError,
+    question: Option<Question>,
+    notice: Option<Failure>,
+}
+
+/// Grows a table, and compares how that ends. No fuel is taken.
+fn grows(rt: &impl Abort, alloc: Global, growth: &Growth) {
+    let ty = func_type((1, growth.maximum));
+    let mut table = table_of(rt, alloc, ty, func(1));
+    let mut meter = metered(7);
+    let mut recorder = Recorder::new(growth.answer, Ok(()));
+    let grown = grow_raw(&mut table, growth.delta, Some(&mut meter), &mut recorder);
+    let ended = (grown, meter.get_fuel());
+    same(rt, "a growth", ended, (Err(growth.error), Ok(7)));
+    same_record(rt, "a growth", &recorder, growth.question, growth.notice);
+}
+
+static ABOVE_THE_MAXIMUM: Growth = Growth {
+    maximum: Some(2),
+    delta: 2,
+    answer: Ok(true),
+    error: OUT_OF_BOUNDS,
+    question: Some(Question {
+        kind: Kind::Elements,
+        current: 1,
+        desired: 3,
+        maximum: Some(2),
+    }),
+    notice: Some(Failure::Table(OUT_OF_BOUNDS)),
+};
+
 #[test]
 fn a_growth_above_the_maximum_is_asked_for(rt: HostRuntime) {
-    let ty = TableType::new(RefType::Func, 1, Some(2));
-    let mut table = table_of(&rt, rt.alloc(), ty, func(1));
-    let mut meter = metered(7);
-    let mut recorder = Recorder::new(Ok(true), Ok(()));
-    let grown = grow_raw(&mut table, 2, Some(&mut meter), &mut recorder);
-    let ended = (grown, meter.get_fuel());
-    same(&rt, "by 2", ended, (Err(OUT_OF_BOUNDS), Ok(7)));
-    let question = table_question(1, 3, Some(2));
-    let notice = Some(Failure::Table(OUT_OF_BOUNDS));
-    same_record(&rt, "by 2", &recorder, question, notice);
+    grows(&rt, rt.alloc(), &ABOVE_THE_MAXIMUM);
+}
+
+/// To as many elements as there are indices, to one less, and what a limiter refuses.
+static REFUSED: [Growth; 4] = [
+    Growth {
+        maximum: None,
+        delta: 4294967295,
+        answer: Ok(false),
+        error: OUT_OF_BOUNDS,
+        question: None,
+        notice: None,
+    },
+    Growth {
+        maximum: None,
+        delta: 4294967294,
+        answer: Ok(false),
+        error: OUT_OF_BOUNDS,
+        question: Some(Question {
+            kind: Kind::Elements,
+            current: 1,
+            desired: 4294967295,
+            maximum: None,
+        }),
+        notice: None,
+    },
+    Growth {
+        maximum: None,
+        delta: 1,
+        answer: Ok(false),
+        error: OUT_OF_BOUNDS,
+        question: Some(Question {
+            kind: Kind::Elements,
+            current: 1,
+            desired: 2,
+            maximum: None,
+        }),
+        notice: None,
+    },
+    Growth {
+        maximum: None,
+        delta: 1,
+        answer: Err(COMPLAINT),
+        error: TableError::ResourceLimiterDeniedAllocation,
+        question: Some(Question {
+            kind: Kind::Elements,
+            current: 1,
+            desired: 2,
+            maximum: None,
+        }),
+        notice: None,
+    },
+];
+
+#[test]
+fn a_limiter_refuses_growths(rt: HostRuntime) {
+    for growth in &REFUSED {
+        grows(&rt, rt.alloc(), growth);
+    }
 }
 
 #[test]
@@ -73,37 +161,6 @@ fn tests_the_type_also_for_no_element(rt: HostRuntime) {
     let expected = [mismatch, Ok(1), Ok(1)];
     same(&rt, "another, the same, no type", answers, expected);
     same_record(&rt, "nobody is asked", &recorder, None, None);
-}
-
-#[test]
-fn stays_below_the_number_of_indices(rt: HostRuntime) {
-    let ty = TableType::new(RefType::Func, 1, None);
-    let mut table = table_of(&rt, rt.alloc(), ty, func(1));
-    let mut recorder = Recorder::new(Ok(false), Ok(()));
-    let first = grow_raw(&mut table, 4294967295, None, &mut recorder);
-    same_record(&rt, "as many as indices", &recorder, None, None);
-    let second = grow_raw(&mut table, 4294967294, None, &mut recorder);
-    let question = table_question(1, 4294967295, None);
-    same_record(&rt, "one less", &recorder, question, None);
-    let (answers, expected) = ([first, second], [Err(OUT_OF_BOUNDS); 2]);
-    same(&rt, "as many as indices, one less", answers, expected);
-}
-
-/// A limiter's answer, and how the growth of a table ends.
-static REFUSALS: [(Result<bool, LimiterError>, TableError); 2] = [
-    (Ok(false), OUT_OF_BOUNDS),
-    (Err(COMPLAINT), TableError::ResourceLimiterDeniedAllocation),
-];
-
-#[test]
-fn a_limiter_refuses_growths(rt: HostRuntime) {
-    let ty = TableType::new(RefType::Func, 1, None);
-    let mut table = table_of(&rt, rt.alloc(), ty, func(1));
-    for &(answer, error) in &REFUSALS {
-        let mut recorder = Recorder::new(answer, Ok(()));
-        let grown = grow_raw(&mut table, 1, None, &mut recorder);
-        same(&rt, "a growth", grown, Err(error));
-    }
 }
 
 /// Copies within a table of the functions 1 to 5: to, from, how many, and the elements then.
@@ -126,15 +183,21 @@ fn copies_within(rt: HostRuntime) {
 fn refuses_what_is_past_the_table(rt: HostRuntime) {
     let mut table = five_functions(&rt, rt.alloc());
     let mut meter = metered_at(1, 100);
-    for (to, from, len) in [(u64::MAX, 0, 1), (0, 0, u64::MAX)] {
-        let copied = table.copy_within(to, from, len, Some(&mut meter));
-        same(&rt, "a copy", copied, Err(TableError::CopyOutOfBounds));
-    }
-    for (to, len) in [(4, 2), (u64::MAX, 1)] {
-        let filled = table.fill_raw(to, RawRef::from(9), len, Some(&mut meter));
-        same(&rt, "a fill", filled, Err(TableError::FillOutOfBounds));
-    }
-    same(&rt, "nothing is charged", meter.get_fuel(), Ok(100));
+    let answers = [
+        table.copy_within(u64::MAX, 0, 1, Some(&mut meter)),
+        table.copy_within(0, 0, u64::MAX, Some(&mut meter)),
+        table.fill_raw(4, RawRef::from(9), 2, Some(&mut meter)),
+        table.fill_raw(u64::MAX, RawRef::from(9), 1, Some(&mut meter)),
+    ];
+    let copy = Err(TableError::CopyOutOfBounds);
+    let fill = Err(TableError::FillOutOfBounds);
+    let expected = ([copy, copy, fill, fill], Ok(100));
+    same(
+        &rt,
+        "copies, fills, fuel",
+        (answers, meter.get_fuel()),
+        expected,
+    );
     same_elements(&rt, "unchanged", &table, [1, 2, 3, 4, 5]);
 }
 
@@ -151,9 +214,9 @@ fn charges_for_no_element(rt: HostRuntime) {
     let out_of_fuel = TableError::OutOfFuel {
         required_fuel: u64::MAX,
     };
-    let expected = [Ok(()), Err(out_of_fuel)];
-    same(&rt, "an initialization, a copy", answers, expected);
-    same(&rt, "the fuel", meter.get_fuel(), Ok(10));
+    let answer = (answers, meter.get_fuel());
+    let expected = ([Ok(()), Err(out_of_fuel)], Ok(10));
+    same(&rt, "an initialization, a copy, fuel", answer, expected);
 }
 
 /// Gives two references, then `None` once, then references without end.
