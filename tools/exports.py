@@ -15,7 +15,7 @@ ROWS = re.compile(r"^\n((?:wasmi_.*\n)+)", re.M)
 ROW = re.compile(r"(wasmi_\w+)(?:\((.*)\))? = (\w+)::(\w+)")
 CLAUSE = re.compile(r"^ *ensures (?:(\w+) )?\{ (.*?) \}$", re.M | re.S)
 # What handles hold: the field that has it, the handle, and the totals where it holds none.
-HELD = {"LimitedMachine": ("machine", "Handle", "no_totals"), "TenantPool": ("pool", "PoolHandle", "no_pool_totals")}
+HELD = {"LimitedMachine": ("machine", "Handle", "totals_in NO_MACHINE 0 0"), "TenantPool": ("pool", "PoolHandle", "totals_in NO_POOL 0 0")}
 HANDLES = [handle for _, handle, _ in HELD.values()]
 # Parameters of the methods of what is held that C has by another name.
 OTHER_NAMES = {

@@ -165,7 +165,7 @@ def crate_numbers(traps, source):
     made |= {name: int(number) for name, number in re.findall(r"pub const (\w+): u8 = (\d+);", source)}
     kinds = "".join(re.findall(r"match self\.kind \{(.*?)_ => return", source, re.S))
     types = re.search(r"pub const VAL_TYPES: .*? = \[(.*?)\n\];", source, re.S)[1]
-    made |= {f"CALL_{KINDS.get(name, capitals(name))}": int(number) for number, name in re.findall(r"(\d+) => (?:Call::|self\.)([a-zA-Z]+)", kinds)}
+    made |= {f"CALL_{KINDS.get(name, capitals(name))}": int(number) for number, name in re.findall(r"(\d+) => (?:Call::|return self\.)([a-zA-Z]+)", kinds)}
     made |= {f"CALL_{name}": int(number) for name, number in re.findall(r"const (\w+): u16 = (\d+);", source)}
     made |= {f"TYPE_{name.upper()}": number for number, name in enumerate(re.findall(r"ValType::(\w+),", types))}
     answers = re.findall(r"(?:\d+|_) => LimiterAnswer::(\w+),", source)

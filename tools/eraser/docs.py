@@ -11,7 +11,7 @@ from .tables import ERRORS, LOADED, METHOD_NAMES, ON_FLOATS, module_of, standard
 NAME = r"[^\s(){}\[\].,;:=λ→\"|]+"
 WORD = re.compile(rf"(\w+\.)?({NAME})")
 USE = re.compile(r"(?:ghost |pub )?use Rattle\.(\w+)\.specs\.?([\w.]*?)(?:\.?\{(.*)\}|\s+as\s+(\w+))?;?", re.S)
-DECLARED = re.compile(rf"^(?: *(?:(?:abbrev|unfoldable|opaque|pub|record|data) )+| +(?=[A-Z]\w* : ))({NAME})(?= |$)", re.M)
+DECLARED = re.compile(rf"^(?: *(?:(?:abbrev|unfoldable|opaque|pub|record|data) )+(?!mod |use )| +(?=(?:[A-Z]\w* )+: ))({NAME}(?: [A-Z]\w*)*)(?= |$)", re.M)
 NAMED = re.compile(r"docs!\((\w+) ([\w.]+)\)")
 # The functions of a type in rust/src that pass on to the proved ones, and the head of one of these.
 METHODS = re.compile(r"methods!\((\w+) (\w+):([\w\s]+|\s*\.\.)\);")
@@ -21,6 +21,11 @@ BORROWED = re.compile(r"\b(ElementSegmentRef|ResourceLimiterRef)\b(?:<L>)?")
 # The instructions of a module that rust/src exports, and the functions of a module's text with their attributes, parameters and results.
 EXPORTED = re.compile(r"^instructions!\((\w+) (\w+)\);", re.M)
 INSTRUCTION = re.compile(r"^    #\[(?:must_use|inline.*)\]\n(?:    #\[.*\]\n)*    pub fn (\w+)\(([^)]*)\) -> (.*) \{$", re.M)
+
+
+def declared(text):
+    """The words that a text declares, of which a line may have several."""
+    return " ".join(DECLARED.findall(text)).split()
 
 
 class Links:
@@ -55,7 +60,7 @@ class Specs:
             for path in sorted((source / crate / "specs").glob("*.antt")):
                 if path.stem != "Lib":
                     self.pages[crate, path.stem] = text = path.read_text()
-                    for word in DECLARED.findall(text):
+                    for word in declared(text):
                         self.places.setdefault(word, []).append((crate, path.stem))
 
     def links(self, uses):
@@ -79,14 +84,14 @@ class Specs:
     def page(self, crate, file, text):
         """The page of a file: its first comment, then the rest, with a place for each word that it declares, and links."""
         about, links = re.match(r"(?:--.*\n)*", text)[0], Links(self, re.findall(r"^(?:pub )?use .*", text, re.M))
-        links.places |= {word: self.place(crate, file, word) for word in DECLARED.findall(text)}
+        links.places |= {word: self.place(crate, file, word) for word in declared(text)}
 
         def linked(found):
             place, said = links.place(*found.groups()), html.escape(found[0])
             if found[2][0] == "«":
                 return f'<b id="{said[1:-1]}">{said[1:-1]}</b>'
             return f'<a href="../../{re.sub("::(?=.*#)", "/", place[14:]).replace("#", "/index.html#")}">{said}</a>' if place else said
-        rows = DECLARED.sub(lambda it: it[0][:-len(it[1])] + f"«{it[1]}»", text[len(about):].strip("\n")).split("\n")
+        rows = DECLARED.sub(lambda it: it[0][:-len(it[1])] + " ".join(f"«{word}»" for word in it[1].split()), text[len(about):].strip("\n")).split("\n")
         rows = [html.escape(row) if row.lstrip().startswith("--") else WORD.sub(linked, row) for row in rows]
         said = re.sub(r"([\[\]<>*_`\\])", r"\\\1", " ".join(line.strip("- ") for line in about.splitlines()))
         return f"{said}\n\n<pre><code>{chr(10).join(rows)}\n</code></pre>\n"

@@ -53,7 +53,7 @@ EDITS = [
     ("meter", "#[derive(Clone, Debug, Default)]\npub struct FuelCostsProvider", "#[derive(Clone, Default)]\npub struct FuelCostsProvider", 1),
     ("meter", "fn costs(&self)", "pub(crate) fn costs(&self)", 1),
     # A pool's invariant has what a reserving run would test by a sum over all slots of the tenant.
-    ("budget", "run_into_reserving, run_reserving,", "run_into_lending, run_lending,", 1),
+    ("budget", "run_into_reserving, run_reserving}", "run_into_lending, run_lending}", 1),
     ("budget", "run_reserving(&mut self.machine", "run_lending(&mut self.machine", 1),
     ("budget", "run_into_reserving(&mut self.machine", "run_into_lending(&mut self.machine", 1),
     # Fields without docs.
@@ -159,12 +159,12 @@ EDITS += [
 # bytes stands in front of the array, which LLVM copies by two overlapping words.
 EDITS += [
     ("types", "enum Kept {", "#[repr(u16)]\n    enum Kept {", 1),
-    ("types", "let kept = entries.kept()?;", """
+    ("types", "match entries.kept() {", """
             if entries.rest.is_empty() {
                 let kept = Kept::Inline(entries.inline);
                 return Ok(FuncType { len_params, len_results, kept });
             }
-            let kept = entries.kept()?;""", 1),
+            match entries.kept() {""", 1),
     ("types", "#[inline] fn kept(", "#[inline(never)]\n        fn kept(", 1),
     ("types", "let types = match &self.kept { Kept::Inline(types) => &types[..], Kept::Big(types) => types.as_slice(), };"
      " &types[..usize::from(self.len_params) + usize::from(self.len_results)]", """

@@ -150,7 +150,7 @@ class File(Source):
 
     def errors(self, found, head, clauses):
         """The errors that the forms of the clauses tell; in docs that say them already, each gets a link to its variant."""
-        returned = None if self.is_test else re.search(r"-> Result<.*?(\w+(?:Error|Code))\b", head, re.S)
+        returned = None if self.is_test else re.search(r"-> Result<.*?(\w+(?:Error|Code|Calls))\b", head, re.S)
         variants = self.known.errors[returned[1]] if returned and returned[1] in PLACES_OF_ERRORS else ()
 
         def linked(name):
@@ -162,7 +162,8 @@ class File(Source):
             self.kept[mark] = re.sub(r"`(\w+)`", linked, self.kept[mark])
         if variants and marks and (other := re.match(r"/// As `(\w+?)(?:_metered)?`, with", self.kept[int(marks[0])])):
             return [f"Those of `{other[1]}`."]
-        return [re.sub(r"`(\w+)`", linked, its) for form, its in ERRORS.items() if returned and re.search(form, " ".join(clauses))]
+        forms = " ".join(" ".join(clauses).split())
+        return [re.sub(r"`(\w+)`", linked, its) for form, its in ERRORS.items() if returned and re.search(form, forms)]
 
     def must_use(self, found, head, opening):
         """`#[must_use]` of a public function whose result is all that it does."""

@@ -86,18 +86,69 @@ PUBLIC = {"wasmi_budget": "pool", "wasmi_core": "machine"}
 
 # The form of a load's clause, but for that of the private `load_front`.
 LOADED = r"result ≡ loaded(?:_raw|_vector|_lane)? (?!self bytes)"
+# What several errors begin with.
+ORDER = "In the order of the tests: "
+NO_TENANT = ORDER + "`NoTenant` if no tenant has the index; "
+OTHER_TYPE = ORDER + "`ElementTypeMismatch` if the reference is of another type; "
+DENIED = "`ResourceLimiterDeniedAllocation` if the limiter doesn't permit it"
+MINIMUM = ORDER + f"`MinimumSizeOverflow` if the minimum has 2^64 bytes or more; {DENIED}"
+MINIMUM_32 = "`MinimumSizeOverflow` if `usize` has 32 bits and the minimum more; " + DENIED
 # The errors of a function that has a clause of such a form.
 ERRORS = {
     LOADED: "`MemoryOutOfBounds` if the bytes end past the memory.",
     r"IsStore ": "`MemoryOutOfBounds` if the bytes would end past the memory; then nothing is written.",
-    r"result ≡ idiv_s ": "In the order of the tests: `IntegerDivisionByZero` if the divisor is 0; `IntegerOverflow` for the least number by -1.",
+    r"result ≡ idiv_s ": ORDER + "`IntegerDivisionByZero` if the divisor is 0; `IntegerOverflow` for the least number by -1.",
     r"result ≡ (?:idiv_u|irem_[su]) ": "`IntegerDivisionByZero` if the divisor is 0.",
     r"rules\.(?:asked|noticed) self": "An implementation's own. The call then returns `ResourceLimiterDeniedAllocation`.",
-    r"\(optional_rules L\.rules\)\.(?:asked|noticed) \(lent_limiter self": "The limiter's. Without a limiter there is none.",
-    r"≡ meter_set self|result ≡ Ok \(amount_left ": "`FuelMeteringDisabled` if the meter is off.",
+    r"\(optional_rules L\.rules\)\.(?:asked|noticed) \(lent_limiter (?:self|limiter\.old\) \(notice)": "The limiter's. Without a limiter there is none.",
+    r"FuelError\.FuelMeteringDisabled": "`FuelMeteringDisabled` if the meter is off.",
+    r"\bConsumesFuel ": "`OutOfFuel` with the amount if less is left; then nothing is consumed.",
     r"result ≡ binary_raw ": "Divisions and remainders alone can trap: by zero with `IntegerDivisionByZero`, and a signed division"
                              " of the least number by -1 with `IntegerOverflow`.",
-    r"SetsGlobal ": "In the order of the tests: `ImmutableWrite` if the variable is a constant; `TypeMismatch` if the value is of another type.",
+    r"SetsGlobal ": ORDER + "`ImmutableWrite` if the variable is a constant; `TypeMismatch` if the value is of another type.",
+    # Of memories.
+    r"PermitsMinimum ": MINIMUM + ".",
+    r"MakesMemory \(.*?\) Owned": MINIMUM + "; `OutOfSystemMemory`, of which the limiter is notified.",
+    r"MakesMemory \(.*?\) \(Lent": MINIMUM + "; `InvalidStaticBufferSize` if the region is shorter than the minimum, of which the limiter is notified."
+                                             " After an error the bytes of the region are unchanged.",
+    r"zeros_in Owned": "`OutOfSystemMemory` if memory is refused.",
+    r"zeros_in \(Lent": "`InvalidStaticBufferSize` if the borrowed buffer is shorter. Then the loan has ended, and its bytes are unchanged.",
+    r"\(CanFail ": "`OutOfSystemMemory` if the bytes are owned and memory is refused; `InvalidStaticBufferSize` if they are borrowed and the borrowed"
+                   " buffer is shorter.",
+    r"GrowsMemory .*\(memory_in ": "Those of [`wasmi_store::LinearMemory::grow`] on a lent region.",
+    r"\(at \S+ offset \(length buffer": "`OutOfBoundsAccess` if they end past the memory; then nothing is copied.",
+    r"WritesMemory |\(overwrite bytes\.old offset": "`OutOfBoundsAccess` if they would end past the memory; then nothing is written.",
+    r"WritesMemoryRange |BulkWrites ": ORDER + "`OutOfBoundsAccess` if a range ends past its memory or segment; `OutOfFuel`, which is tested also if no byte"
+                                               " is written. Then no byte is written, and no fuel taken.",
+    # Of tables and element segments.
+    r"MakesTable ": OTHER_TYPE + MINIMUM_32 + "; `OutOfSystemMemory`, of which the limiter is notified.",
+    r"MakesTableIn ": ORDER + MINIMUM_32 + "; `OutOfSystemMemory` if the region is shorter than the minimum, of which the limiter is notified."
+                                           " After an error the region is unchanged.",
+    r"GrowsTable ": "`ElementTypeMismatch` if the type differs, also in a growth by 0; then those of `grow_raw`.",
+    r"GrowsTableIn ": "Those of [`wasmi_store::Table::grow_raw`], of which `OutOfSystemMemory` comes only if the region is shorter than the new size."
+                      " After an error the whole region is unchanged.",
+    r"SetsTable ": OTHER_TYPE + "`SetOutOfBounds` past the end.",
+    r"SetsTableRaw ": "`SetOutOfBounds` past the end.",
+    r"\(initialization_of ": ORDER + "`ElementTypeMismatch` if the items are of another type; `InitOutOfBounds` if a range ends past the segment or the"
+                                     " table; `OutOfFuel`.",
+    r"\(copy_of (?:\w+ ){3}(?:src_table|\(table_of source)": ORDER + "`ElementTypeMismatch` if the types differ; `CopyOutOfBounds` if a range ends past its"
+                                                                  " table; `OutOfFuel`, which is tested also if no element is copied.",
+    r"\(copy_of (?:\w+ ){3}(?:self|\(table_of ty)": ORDER + "`CopyOutOfBounds` if a range ends past the table; `OutOfFuel`, which is tested also if no"
+                                                         " element is copied.",
+    r"\(filling_of ": "`ElementTypeMismatch` if the reference is of another type; then those of `fill_raw`.",
+    r"\(raw_filling_of ": ORDER + "`FillOutOfBounds` if they end past the table; `OutOfFuel`, which is tested also if no element is filled.",
+    r"IsReading(?:Of)? I\.": "`TooManyItems` at item 2^32; `OutOfSystemMemory` at the item for which memory is refused.",
+    # Of machines and pools.
+    r"≡ with_(?:elements_)?reserved self\.old": "`AllocError` if memory for some of it is refused; then no more is reserved.",
+    r"IfOk result \(λ replies\. IsRunOf ": "`AllocError` if memory for the replies, allocated first, is refused; then nothing has happened.",
+    r"IsOk result ↔ \(length calls\.now ≤ replies": "`TooManyCalls` for more calls than the capacity of `replies`; then nothing has happened.",
+    r"IsAddRefusal ": ORDER + "`NotEmpty` if the machine has or had bytes or elements; `NoRoom` if memory for one more tenant is refused, or each index was"
+                              " given. The machine is handed back with the error.",
+    r"\(error ≡ PoolError\.NoTenant\)": "`NoTenant` if no tenant has the index, and no other; then nothing has changed.",
+    r"IsErrOf result PoolError\.": NO_TENANT + "`OutOfMemory` if memory for the replies is refused. Then no call was executed.",
+    r"IsErrOf result ReserveError\.": NO_TENANT + "`OutOfMemory` if memory for some of the slots is refused. Then none more is reserved.",
+    r"IsErrOf result RunIntoError\.": NO_TENANT + "`TooManyCalls` if there are more calls than the capacity of `replies`. Then no call was executed, and the"
+                                                  " replies stay.",
 }
 # The module of each public error.
 PLACES_OF_ERRORS = dict.fromkeys(("FuelError", "GlobalError", "MemoryError", "TableError", "TrapCode"), "crate") | {

@@ -1,12 +1,9 @@
-//! Loads and stores of any type that has little-endian bytes, and the traits of these bytes, of
-//! wrapping and of extending.
+//! Loads and stores of any type with little-endian bytes; traits of these, of wrapping, extending.
 //!
 //! A memory is a slice of bytes, and an address counts bytes from its start. An access to `ptr +
 //! offset` has the unbounded sum for its address. The only error is `MemoryOutOfBounds`, where the
 //! memory ends before the last byte, and then nothing is written. Upstream: the module
-//! `memory::access`, private there. Core specification: memory instructions, and the storage of
-//! integers under numerics.
-
+//! `memory::access`, private there. Core specification: memory instructions; storage of integers.
 ghost use Rattle.std.specs.Prelude.{◌≡◌, ◌↔◌, ℕ, ◌+◌, ◌*◌, ◌^◌, ◌<◌, ◌≤◌, IsTrue, List, MatchResult, length, Some};
 ghost use Rattle.std.specs.Int.{int_wrap};
 ghost use mir.Val.{bits};
@@ -163,9 +160,7 @@ pub fn effective_address(ptr: u64, offset: u64) -> Result<usize, TrapCode>
 }
 
 /// The number at `ptr + offset`.
-pub fn load<T>(memory: &[u8], ptr: u64, offset: u64) -> Result<T, TrapCode>
-where
-    T: LittleEndianConvert,
+pub fn load<T: LittleEndianConvert>(memory: &[u8], ptr: u64, offset: u64) -> Result<T, TrapCode>
     ensures value { result ≡ loaded T.Bytes.LEN
         (λ n. T.of_number (number_of_bits T.is_signed T.width n)) memory.now (ptr + offset) }
     ensures number { GivesNumber T.number result
@@ -175,9 +170,7 @@ where
 }
 
 /// The number at `address`.
-pub fn load_at<T>(memory: &[u8], address: usize) -> Result<T, TrapCode>
-where
-    T: LittleEndianConvert,
+pub fn load_at<T: LittleEndianConvert>(memory: &[u8], address: usize) -> Result<T, TrapCode>
     ensures value { result ≡ loaded T.Bytes.LEN
         (λ n. T.of_number (number_of_bits T.is_signed T.width n)) memory.now address }
     ensures number { GivesNumber T.number result

@@ -1,5 +1,4 @@
-//! The integers of 8 to 128 bits in little-endian bytes: the implementations of
-//! `LittleEndianConvert`.
+//! The integers of 8 to 128 bits in little-endian bytes: `LittleEndianConvert` of each.
 #![tactic(auto, using(crate::proofs::ByteLemmas::byte_numbers))]
 
 ghost use Rattle.std.specs.Prelude.{refl};

@@ -1,5 +1,4 @@
 //! Laws on loads, on stores and on the bytes of numbers.
-
 ghost use Rattle.std.specs.Prelude.{◌≡◌, ℕ, ℤ, ◌*◌, ◌%◌, ◌^◌, List, Ok};
 ghost use Rattle.wasmi_types.specs.Numbers.{le_bytes};
 ghost use Rattle.wasmi_access.specs.LoadStore.{loaded, IsStore, IsSameOutside};

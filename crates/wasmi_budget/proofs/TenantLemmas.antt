@@ -1,6 +1,6 @@
 -- One machine with its tenant: the tenant's rules, amounts by kind, what the machine has, and what the tenant and all
 -- hold, before and after a call or a run, and calls that are replied to in the same way under each tenant.
-use Rattle.std.proofs.Common.{◌≡◌, Result, Ok, Err, OnErr, Option, Some, List, refl, sym, ◌∙◌, ℕ, ◌≤◌, ◌<◌, ◌^◌, None, length, [], ◌∷◌, sum, ap, arith, ⊎_elim}
+use Rattle.std.proofs.Common.{◌≡◌, Option, Some, List, refl, sym, ◌∙◌, ℕ, ◌≤◌, ◌<◌, ◌^◌, None, length, [], ◌∷◌, sum, ap, arith, ⊎_elim}
 use Rattle.std.proofs.lemmas.Option.{same_Some}
 use Rattle.wasmi_meter.specs.declared.{limiter.Kind.Kind, quota.Amounts.Amounts}
 use Rattle.wasmi_meter.specs.Capped.{amount_of, amounts_of, nothing, held_together}
@@ -22,11 +22,6 @@ use Rattle.wasmi_meter.specs.declared.limiter.Kind.TheVariants.{Bytes, Elements}
 use Rattle.wasmi_meter.specs.CappedProofs.{asked_reserves, noticed_gives_back}
 use Rattle.wasmi_machine.specs.declared.{calls.Call.Call, calls.Reply.Reply, slots.SlotCounts.SlotCounts}
 use Rattle.wasmi_machine.specs.declared.calls.Call.TheVariants.{Binary, CopyMemory, FillMemory, InitMemory, SetFuel, Store, Write}
-
--- what holds of a tenant's run anyway holds where it ends in an error
-pub of_error : {T E Q : Type 0} (r : Result T E) → Q → OnErr r Q
-of_error (Ok t) q = tt
-of_error (Err e) q = q
 
 -- the caps, and what the others hold, are the same with other holdings
 pub tenant_keeps : KeepsCaps capped_tenant

@@ -4,7 +4,7 @@ use Rattle.std.proofs.Common.{◌≡◌, ◌≢◌, ◌∙◌, ◌<◌, ◌≤�
 use Rattle.std.specs.Prelude.{All, MatchResult, ◌↔◌, is_some, nat_eq, remove, if◌then◌else◌}
 use Rattle.std.specs.List.{range_with_len}
 use Rattle.std.proofs.lemmas.Bool.{cases_eq, cases_lt, ne_eqb, eq-eqb}
-use Rattle.std.specs.Result.{IsErrAnd, result_ok}
+use Rattle.std.specs.Result.{IfErr, IfOk, IsErrAnd, OnErr, result_ok}
 use Rattle.std.proofs.lemmas.List.Sorted.{searched}
 use Rattle.std.specs.List.Sorted.{IsBinarySearchResult}
 use Rattle.std.specs.Ordering.{nat_cmp}
@@ -313,6 +313,14 @@ module _ {X : Type 0} {next : ℕ} {indices : List ℕ} {values : List X} (liste
     ])),
   )
 
+-- where there is a value, no result tells of a lack of it: neither an accepted one nor another error
+module _ {T E X : Type 0} {x : X} (o : Option X) (there : o ≡ Some x) (e : E) where
+  pub found_ok : (t : T) → (Ok t ≡ Err e) ↔ (o ≡ None)
+  found_ok t = (λ error. absurd cc, λ none. absurd cc)
+
+  pub found_err : (e' : E) (r : Result T E) → (e' ≡ e → ⊥) → r ≡ Err e' → (r ≡ Err e) ↔ (o ≡ None)
+  found_err e' r other is = (λ error. let same : e' ≡ e = cc in absurd (other same), λ none. absurd cc)
+
 module _ {next : ℕ} {indices : List ℕ} {machines : List State} (listed : IsListed next indices machines)
     {view : List (Option State)} (is : by_index next indices machines ≡ view) {seen : List ℕ} (sees : seen ≡ indices)
     (index place : ℕ) (found : IsPlace seen index (Some place)) {s : State} (at : s ≡ get_or machines place s) where
@@ -339,18 +347,36 @@ module _ {next : ℕ} {indices : List ℕ} {machines : List State} (listed : IsL
         part_kept kept index there part put,
       )
 
+  -- what a run at the place of an index gives, where its one error leaves all as it was
+  module _ {T E : Type 0} (replies_of : T → List Reply) (none : E) {other : E} (apart : other ≡ none → ⊥)
+      {caps all all' : Amounts} (calls : List Call) (s' : State) where
+    pub run_at : (r : Result T E) → IsKept (pool_of caps view) all
+        → IfOk r (λ t. RunsAsPart caps all s calls (replies_of t) s' all')
+        → IfErr r (λ e. (e ≡ other) × (s' ≡ s) × (all' ≡ all))
+        → IfOk r (λ t. RunsTenant (pool_of caps view) index calls (replies_of t)
+        (pool_of caps (by_index next indices (set machines place s'))))
+        × ((r ≡ Err none) ↔ (get_or view index None ≡ None))
+        × OnErr r (by_index next indices (set machines place s') ≡ view)
+        × IsKept (pool_of caps (by_index next indices (set machines place s'))) all'
+    run_at (Ok t) kept run err =
+        let ran = ran_at kept run in (ran.0, found_ok _ ran.0.found none t, tt, ran.1)
+    run_at (Err e) kept run (only, same, counted) =
+        let put = value_put_back listed is place s s' same at in (
+          tt,
+          found_err _ (its_value listed is sees index place found at) none other _ apart (ap Err only),
+          put,
+          rw (put, counted) kept,
+        )
+
+-- two facts of a refusal
+pub on_err_both : {T E : Type 0} (P Q : Type 0) (r : Result T E) → OnErr r P → OnErr r Q → OnErr r (P × Q)
+on_err_both P Q (Ok t) p q = tt
+on_err_both P Q (Err e) p q = (p, q)
+
 -- the error of a call on an index, which can only be this one
 pub only_error : {T E : Type 0} (e : E) (r : Result T E) → IsErrAnd r (λ x. x ≡ e) → r ≡ Err e
 only_error e (Ok t) is = absurd is
 only_error e (Err x) is = ap Err is
-
--- where there is a value, no result tells of a lack of it: neither an accepted one nor another error
-module _ {T E X : Type 0} {x : X} (o : Option X) (there : o ≡ Some x) (e : E) where
-  pub found_ok : (t : T) → (Ok t ≡ Err e) ↔ (o ≡ None)
-  found_ok t = (λ error. absurd cc, λ none. absurd cc)
-
-  pub found_err : (e' : E) (r : Result T E) → (e' ≡ e → ⊥) → r ≡ Err e' → (r ≡ Err e) ↔ (o ≡ None)
-  found_err e' r other is = (λ error. let same : e' ≡ e = cc in absurd (other same), λ none. absurd cc)
 
 -- a search among rising indices finds the place of an index, or says that it isn't among them
 pub searched_place : (indices : List ℕ) (j : ℕ) (r : Result ℕ ℕ) (place : Option ℕ) → Rises indices

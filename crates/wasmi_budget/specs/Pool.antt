@@ -71,12 +71,11 @@ pub record IsKept (pool : PoolValue) (held : Amounts) : Type 0 where
 
 -- the limiter of the machine s of an index: it holds what the machine has, beside what the others have
 abbrev pub tenant_at : PoolValue → ℕ → State → Tenant
-tenant_at pool index s =
-    record {
-      caps = pool.caps;
-      others = amounts_of (total_of (remove pool.machines index));
-      holdings = record { held = amounts_of (total s); last = None };
-    }
+tenant_at pool index s = record {
+  caps = pool.caps;
+  others = amounts_of (total_of (remove pool.machines index));
+  holdings = record { held = amounts_of (total s); last = None };
+}
 
 -- the machine has no bytes and no elements, and dropped none
 pub record HasNothing (s : State) : Type 0 where

@@ -74,7 +74,6 @@ impl fmt::Display for RunIntoError {
 impl std::error::Error for RunIntoError {}
 
 impl From<TooManyCalls> for RunIntoError {
-    ghost use Rattle.std.specs.Prelude.{◌≡◌};
     ghost use Rattle.wasmi_budget.specs.declared.error.RunIntoError.TheVariants as into;
 
     ghost from_gives = { λ _ error. error ≡ into.TooManyCalls };
@@ -115,7 +114,6 @@ impl fmt::Display for ReserveError {
 impl std::error::Error for ReserveError {}
 
 impl From<AllocError> for ReserveError {
-    ghost use Rattle.std.specs.Prelude.{◌≡◌};
     ghost use Rattle.wasmi_budget.specs.declared.error.ReserveError.TheVariants as reserve;
 
     ghost from_gives = { λ _ error. error ≡ reserve.OutOfMemory };

@@ -53,8 +53,7 @@ impl<'r> Pool<'r> {
         }
     }
 
-    /// How many tenants were added, which is the index of the next one. Those that were removed
-    /// count too.
+    /// How many tenants were added, also removed ones, which is the index of the next one.
     pub fn len(&self) -> usize
         ensures value { result ≡ length self.now.machines }
         ensures within { IsWithinCaps self.now }
@@ -72,15 +71,8 @@ impl<'r> Pool<'r> {
     /// Adds a machine that has nothing yet, and returns its index. It costs what
     /// `Machine::total_bytes` and `total_elements` cost on the added machine, nothing for a new
     /// one, and a place in two vectors. No index is given twice.
-    ///
-    /// # Errors
-    ///
-    /// In the order of the tests: `NotEmpty` if the machine has or had bytes or elements; `NoRoom`
-    /// if memory for one more tenant is refused, or each index was given. The machine is handed
-    /// back with the error.
     pub fn add(&mut self, machine: Machine<'r>) -> Result<usize, (AddError, Machine<'r>)>
-        ensures added { IfOk result
-            (λ index. (index ≡ length self.old.machines)
+        ensures added { IfOk result (λ index. (index ≡ length self.old.machines)
             × AddsTenant self.old machine.entry self.new) }
         ensures refused { IfErr result (λ refusal. IsAddRefusal machine.entry refusal.0) }
         ensures same { IfErr result
@@ -118,11 +110,6 @@ impl<'r> Pool<'r> {
 
     /// Reserves so many more slots of each kind on the machine of a tenant, as `Machine::reserve`
     /// does. What is reserved counts within no cap.
-    ///
-    /// # Errors
-    ///
-    /// In the order of the tests: `NoTenant` if no tenant has the index; `OutOfMemory` if memory for
-    /// some of the slots is refused. Then none more is reserved.
     pub fn reserve(&mut self, index: usize, slots: SlotCounts) -> Result<(), ReserveError>
         ensures reserved { OnOk result (ReservesForTenant self.old index slots self.new) }
         ensures no_tenant { IsErrOf result ReserveError.NoTenant
@@ -133,13 +120,8 @@ impl<'r> Pool<'r> {
         self.tenants.reserve(index, slots)
     }
 
-    /// Reserves memory for so many elements in all of a table of a tenant, those that are there
-    /// included, as `Machine::reserve_elements` does, with its replies. What is reserved counts within
-    /// no cap.
-    ///
-    /// # Errors
-    ///
-    /// `NoTenant` if no tenant has the index, and no other. Then nothing has changed.
+    /// Reserves memory for so many elements in all of a table of a tenant, those there included, as
+    /// `Machine::reserve_elements` does, with its replies. What is reserved counts within no cap.
     pub fn reserve_elements(
         &mut self,
         index: usize,
@@ -161,11 +143,6 @@ impl<'r> Pool<'r> {
     /// Executes calls on the machine of a tenant, under a limiter that permits what keeps all
     /// tenants together within the caps. It costs memory for the replies, a search among the indices
     /// of the tenants, and what the calls cost, however much was made or dropped before.
-    ///
-    /// # Errors
-    ///
-    /// In the order of the tests: `NoTenant` if no tenant has the index; `OutOfMemory` if memory
-    /// for the replies is refused. Then no call was executed.
     pub fn run(&mut self, index: usize, calls: &[Call]) -> Result<Vec<Reply>, PoolError>
         ensures ran { IfOk result
             (λ replies. RunsTenant self.old index calls.now replies.items self.new) }
@@ -179,19 +156,13 @@ impl<'r> Pool<'r> {
 
     /// Executes calls on the machine of a tenant, as `run`, but puts their replies into memory that
     /// is there, in place of those that it has. It takes no memory for them.
-    ///
-    /// # Errors
-    ///
-    /// In the order of the tests: `NoTenant` if no tenant has the index; `TooManyCalls` if there are
-    /// more calls than the capacity of `replies`. Then no call was executed, and the replies stay.
     pub fn run_into(
         &mut self,
         index: usize,
         calls: &[Call],
         replies: &mut Replies,
     ) -> Result<(), RunIntoError>
-        ensures ran { OnOk result
-            (RunsTenant self.old index calls.now replies.new.items self.new) }
+        ensures ran { OnOk result (RunsTenant self.old index calls.now replies.new.items self.new) }
         ensures no_tenant { IsErrOf result RunIntoError.NoTenant
             ↔ (machine_of self.old index ≡ None) }
         ensures too_many { IsErrOf result RunIntoError.TooManyCalls
@@ -208,10 +179,6 @@ impl<'r> Pool<'r> {
     /// Executes one call on the machine of a tenant, as `run` executes a list of it alone. It takes
     /// no memory for the reply. It costs a search among the indices of the tenants, none where no
     /// tenant before this one was removed, and what the call costs.
-    ///
-    /// # Errors
-    ///
-    /// `NoTenant` if no tenant has the index, and no other. Then no call was executed.
     #[inline(always)]
     pub fn step(&mut self, index: usize, call: &Call) -> Result<Reply, PoolError>
         ensures ran { IfOk result
@@ -256,10 +223,6 @@ impl<'r> Pool<'r> {
 
     /// Writes bytes over those of a memory of a tenant from an offset on, as the call `Write` does,
     /// but those of a slice and not of a list. It takes no memory, and costs what `step` costs.
-    ///
-    /// # Errors
-    ///
-    /// `NoTenant` if no tenant has the index, and no other. Then nothing was written.
     #[inline(always)]
     pub fn write(
         &mut self,
@@ -319,11 +282,9 @@ impl<'r> Pool<'r> {
         self.held_by_all
     }
 
-    /// What a tenant's machine has.
     #[inline(always)]
     fn held(&self, index: usize) -> Option<Amounts>
-        ensures { result
-            ≡ option_map (λ s. amounts_of (total s)) (machine_of self.now index) }
+        ensures { result ≡ option_map (λ s. amounts_of (total s)) (machine_of self.now index) }
     {
         Some(self.tenants.get(index)?.held)
     }

@@ -1,5 +1,5 @@
 //! One machine of a pool with the amounts it has, the calls on it, and its limiter, the tenant.
-ghost use Rattle.std.specs.Prelude.{◌≡◌, ◌≤◌, ◌<◌, ◌^◌, ◌∷◌, ◌↔◌, [], Some, IsTrue, IfOk, IsOk, OnErr, OnOk, length};
+ghost use Rattle.std.specs.Prelude.{◌≡◌, ◌≤◌, ◌<◌, ◌^◌, ◌∷◌, ◌↔◌, [], Some, IsErrOf, IsTrue, IfErr, IfOk, OnErr, OnOk, length};
 ghost use Rattle.wasmi_meter.specs.declared.limiter.Kind.{Kind};
 ghost use Rattle.wasmi_meter.specs.Capped.{amounts_of, held_together};
 ghost use Rattle.wasmi_meter.specs.Limiter.{optional_rules};
@@ -8,11 +8,10 @@ ghost use Rattle.wasmi_machine.specs.State.{total, with_reserved, world, IsRefus
 ghost use Rattle.wasmi_budget.specs.Pool.{holdings, capped_tenant, tenant_rules, tenant_of, held_before, IsPart, RunsAsPart, IsUnasked, RepliesUnasked, ReservesElements};
 ghost use Rattle.wasmi_machine.specs.declared.calls.Call.TheVariants.{Write};
 
+use crate::error::{PoolError, RunIntoError};
 use std::alloc::AllocError;
 use std::marker::Model;
-use wasmi_machine::{
-    Call, Machine, Replies, Reply, SlotCounts, TooManyCalls, run_into_reserving, run_reserving,
-};
+use wasmi_machine::{Call, Machine, Replies, Reply, SlotCounts, run_into_reserving, run_reserving};
 use wasmi_meter::{Amounts, CappedLimiter, Holdings, Kind, ResourceLimiterRef};
 
 /// The limiter of one machine of a pool: it permits what keeps all tenants together within the
@@ -42,7 +41,6 @@ impl Tenant {
         }
     }
 
-    /// What all tenants hold.
     fn held_by_all(&self) -> Amounts
         requires fits { (kind : Kind) → held_together capped_tenant self.now kind < 2 ^ 64 }
         ensures value { result ≡ amounts_of (held_together capped_tenant self.now) }
@@ -118,8 +116,7 @@ impl<'r> CountedMachine<'r> {
         self.machine.reserve(slots)
     }
 
-    /// Reserves memory for so many elements in all of a table. What the machine has stays, so no
-    /// tenant holds it.
+    /// Reserves memory for so many elements in all of a table. No tenant holds it, as at `reserve`.
     pub(crate) fn reserve_elements(&mut self, table: usize, elements: u64) -> Reply
         ensures reserved { ReservesElements self.old table elements result self.new }
     {
@@ -133,11 +130,12 @@ impl<'r> CountedMachine<'r> {
         calls: &[Call],
         caps: Amounts,
         all: &mut Amounts,
-    ) -> Result<Vec<Reply>, AllocError>
+    ) -> Result<Vec<Reply>, PoolError>
         requires part { IsPart caps all.old self.old }
         ensures run { IfOk result (λ replies. RunsAsPart caps all.old self.old calls.now
             replies.items self.new all.new) }
-        ensures err { OnErr result ((self.new ≡ self.old) × (all.new ≡ all.old)) }
+        ensures err { IfErr result (λ error. (error ≡ PoolError.OutOfMemory)
+            × (self.new ≡ self.old) × (all.new ≡ all.old)) }
     {
         let mut tenant = Tenant::new(caps, *all, self.held);
         let replies = run_reserving(&mut self.machine, calls, &mut tenant)?;
@@ -152,13 +150,16 @@ impl<'r> CountedMachine<'r> {
         caps: Amounts,
         all: &mut Amounts,
         replies: &mut Replies,
-    ) -> Result<(), TooManyCalls>
+    ) -> Result<(), RunIntoError>
         requires part { IsPart caps all.old self.old }
         ensures run { OnOk result (RunsAsPart caps all.old self.old calls.now replies.new.items
             self.new all.new) }
-        ensures accepted { IsOk result ↔ (length calls.now ≤ replies.old.capacity) }
-        ensures err { OnErr result ((self.new ≡ self.old) × (all.new ≡ all.old)
-            × (replies.new ≡ replies.old)) }
+        ensures too_many { IsErrOf result RunIntoError.TooManyCalls
+            → (replies.old.capacity < length calls.now) }
+        ensures accepted { OnOk result (length calls.now ≤ replies.old.capacity) }
+        ensures err { IfErr result (λ error. (error ≡ RunIntoError.TooManyCalls)
+            × (self.new ≡ self.old) × (all.new ≡ all.old)) }
+        ensures same { OnErr result (replies.new ≡ replies.old) }
         ensures capacity { replies.new.capacity ≡ replies.old.capacity }
     {
         let mut tenant = Tenant::new(caps, *all, self.held);
@@ -182,8 +183,7 @@ impl<'r> CountedMachine<'r> {
         reply
     }
 
-    /// Writes bytes over those of a memory, which asks no limiter. What the machine has stays, so no
-    /// tenant holds it.
+    /// Writes bytes over those of a memory, which asks no limiter. What the machine has stays.
     #[inline(always)]
     pub(crate) fn write(&mut self, memory: usize, offset: usize, bytes: &[u8]) -> Reply
         ensures replied { SomeCopy bytes.now

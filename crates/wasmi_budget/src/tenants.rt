@@ -68,7 +68,6 @@ impl<'r> Tenants<'r> {
         }
     }
 
-    /// How many indices were given.
     pub(crate) fn len(&self) -> usize
         ensures { result ≡ length self.now }
     {
@@ -83,7 +82,6 @@ impl<'r> Tenants<'r> {
         is_own_place(&self.indices, index)
     }
 
-    /// The machine at an index, if there is one.
     #[inline(always)]
     pub(crate) fn get(&self, index: usize) -> Option<&CountedMachine<'r>>
         ensures { option_copied result ≡ slice_index_or self.now index None }
@@ -95,8 +93,7 @@ impl<'r> Tenants<'r> {
     /// Puts a machine at the next index, or hands it back if memory is refused or no index is left.
     pub(crate) fn push(&mut self, machine: CountedMachine<'r>) -> Result<(), CountedMachine<'r>>
         ensures added { OnOk result (self.new ≡ self.old ++ Some machine.entry ∷ []) }
-        ensures refused { IfErr result
-            (λ back. (back ≡ machine.entry) × (self.new ≡ self.old)) }
+        ensures refused { IfErr result (λ back. (back ≡ machine.entry) × (self.new ≡ self.old)) }
     {
         let index = self.next;
         let Some(next) = index.checked_add(1) else {
@@ -138,8 +135,7 @@ impl<'r> Tenants<'r> {
         Ok(())
     }
 
-    /// Reserves memory for so many elements in all of a table of the machine at an index, if there is
-    /// one.
+    /// Reserves memory for so many elements in all of a table of the machine at an index, if any.
     pub(crate) fn reserve_elements(
         &mut self,
         index: usize,
@@ -175,8 +171,7 @@ impl<'r> Tenants<'r> {
             return Err(PoolError::NoTenant);
         };
         let machine = &mut self.machines[place];
-        let replies = machine.run(calls, caps, all)?;
-        Ok(replies)
+        machine.run(calls, caps, all)
     }
 
     /// Executes calls, as `run`, but puts their replies into memory that is there.
@@ -204,12 +199,10 @@ impl<'r> Tenants<'r> {
             return Err(RunIntoError::NoTenant);
         };
         let counted = &mut self.machines[place];
-        counted.run_into(calls, caps, all, replies)?;
-        Ok(())
+        counted.run_into(calls, caps, all, replies)
     }
 
-    /// Executes one call on the machine at an index, if there is one, as `run` executes a list of
-    /// it alone.
+    /// Executes one call on the machine at an index, if any, as `run` executes a list of it alone.
     #[inline(always)]
     pub(crate) fn step(
         &mut self,

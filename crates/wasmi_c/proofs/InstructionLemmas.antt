@@ -75,7 +75,7 @@ pub ruleset arrays = (each_written, each_two_written, each_three_written, get_or
 -- what lies at a place of a list of names with their instructions
 pub ruleset places = (gets, slice_get-map)
 
--- whether a lane has the index
+-- whether the bytes of the two vectors of a shuffle have one at the index
 abbrev pub has_lane : ℕ → Bool
 has_lane index = nat_lt index 32
 

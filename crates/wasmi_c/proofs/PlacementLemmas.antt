@@ -27,7 +27,7 @@ growth_charged : {V E S : Type 0} (rules : Rules S) (g : Growth V E) (s s' : Met
 growth_charged rules g s s' result charge (inl none) = rw (none.same, none.uncharged) (meter_after_nothing s.meter)
 growth_charged rules g s s' result charge (inr some) = some.attempt.meter
 
--- what is kept of a number that is there or not
+-- what is kept of a meter's number, which is there or not
 kept_number : (off : Bool) (n charge : ℕ)
     → (let number : Option ℕ = if off then None else Some n in
     let after : Option ℕ = option_map (λ left. left - charge) number in

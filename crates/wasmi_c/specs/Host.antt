@@ -1,12 +1,8 @@
--- A limiter of the host's own: what it answers to a question and to a notice, what a growth asks it, and whether the
--- answers are about that.
-use Rattle.std.specs.Prelude.{◌≡◌, ℕ, Bool, true, false, nat_eq, nat_lt, is_none, is_some, ◌&&◌, if◌then◌else◌, Option, Ok, Err}
-use Rattle.std.specs.Option.{unwrap_or}
+-- A limiter of the host's own: its answers to questions and notices, and whether they are about what a growth asks.
+use Rattle.std.specs.Prelude.{◌≡◌, ℕ, Bool, true, false, nat_eq, nat_lt, is_none, is_some, ◌&&◌, if◌then◌else◌, Option, Ok, Err, unwrap_or}
 use Rattle.wasmi_meter.specs.declared.error.LimiterError.TheVariants.{ResourceLimiterDeniedAllocation}
-use Rattle.wasmi_meter.specs.declared.error.MemoryError.{MemoryError}
 use Rattle.wasmi_meter.specs.Limiter.{Answer, NoticeAnswer, Rules}
 use Rattle.wasmi_store.specs.Growth.{Growth}
-use Rattle.wasmi_store.specs.Memory.{MemoryValue, growth_of, pages_of}
 use Rattle.wasmi_c.specs.declared.{host.HostAnswers.HostAnswers, host.Question.Question}
 
 -- 1 is yes, 0 is no, any other number is an error
@@ -38,16 +34,8 @@ plain_sizes current desired maximum = record {
   has_maximum = if is_some maximum then 1 else 0;
 }
 
--- a growth of a memory by so many pages, with what it asks the host
-abbrev pub memory_growth : MemoryValue → ℕ → Growth MemoryValue MemoryError
-memory_growth x pages = record { amount = pages; size = pages_of x; request = growth_of x pages }
-
--- whether a growth asks a limiter: it is by 1 or more, and no early cause stands against it
-abbrev pub asks : {V E : Type 0} → Growth V E → Bool
-asks g = nat_lt 0 g.amount && is_none g.request.early
-
--- whether the host's answers are to what a growth asks: about the present size, and about the new one if it asks at all
+-- whether the host's answers are to what a growth asks: about the present size, and about the new one if it asks at
+-- all, which it does by 1 or more if no early cause stands against it
 abbrev pub is_about : {V E : Type 0} → HostAnswers → Growth V E → Bool
-is_about a g =
-    nat_eq a.current g.request.question.current
-    && (if asks g then nat_eq a.desired g.request.question.desired else true)
+is_about a g = nat_eq a.current g.request.question.current
+    && (if nat_lt 0 g.amount && is_none g.request.early then nat_eq a.desired g.request.question.desired else true)

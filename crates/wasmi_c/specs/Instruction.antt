@@ -1,7 +1,6 @@
 -- The instruction, load or store that has a number, its name, what a call of it gives on values, on arrays and on a
 -- memory, step by step, and what it leaves where C reads it.
-use Rattle.std.specs.Prelude.{◌≡◌, ℕ, ◌==◌, ◌&&◌, if◌then◌else◌, List, map, length, slice_get, codes, Option, Result, Ok, Err, MatchResult, ◌+◌, nat_lt}
-use Rattle.std.specs.Option.{ok_or}
+use Rattle.std.specs.Prelude.{◌≡◌, ℕ, ◌==◌, ◌&&◌, if◌then◌else◌, List, map, length, slice_get, codes, Option, Result, Ok, Err, MatchResult, ◌+◌, nat_lt, ok_or}
 use Rattle.std.specs.Simd.Lanes.{zip2}
 use Rattle.std.specs.Int.{w32}
 use Rattle.std.specs.List.{list_all}

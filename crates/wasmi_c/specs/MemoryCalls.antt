@@ -8,9 +8,8 @@ use Rattle.wasmi_meter.specs.Capped.{quota_rules}
 use Rattle.wasmi_store.specs.Buffer.{Lent}
 use Rattle.wasmi_store.specs.Growth.{Growth, metered}
 use Rattle.wasmi_store.specs.Write.{filled, copied, BulkWrites}
-use Rattle.wasmi_store.specs.Memory.{MemoryValue, MakesMemory, growth_of, pages_of, MemoryTypeValue, IsValid, named_type, page_bytes, in_bounds}
+use Rattle.wasmi_store.specs.Memory.{MemoryValue, MakesMemory, growth_of, pages_of, MemoryTypeValue, IsValid, named_type, page_bytes, in_bounds, memory_growth}
 use Rattle.wasmi_region.specs.Memory.{memory_in, made_in, zeroed}
-use Rattle.wasmi_c.specs.Host.{memory_growth}
 use Rattle.wasmi_c.specs.Numbers.{settings_of, IsState, MeteredRegion, Placed, placed, SameRest}
 use Rattle.wasmi_c.specs.Placement.{Placement, AsksAs, ByType, ByTypes, EndsBy, MakesAs, WritesAs}
 use Rattle.wasmi_meter.specs.declared.limiter.Kind.TheVariants.{Bytes}
@@ -41,7 +40,7 @@ of_memory = record {
 
 -- a growth by so many pages
 abbrev pub by_pages : ℕ → List ℕ → MemoryValue → Growth MemoryValue MemoryError
-by_pages pages region x = memory_growth x pages
+by_pages pages region x = memory_growth pages x
 
 -- what a growth of a memory asks, by a call
 abbrev pub AsksEmbedded : MemoryNumbers → List ℕ → ℕ → ℕ → Question → Question → Type 0

@@ -1,7 +1,6 @@
 -- The numbers that lie with C, as the memories, tables, meters and quotas that they stand for, what a call keeps of
 -- them and of their region, and what a growth or a write takes besides: a region, a meter and a limiter.
-use Rattle.std.specs.Prelude.{◌≡◌, ◌≤◌, ◌⊎◌, ℕ, List, length, drop, Option, Some, None, Bool, true, nat_eq, if◌then◌else◌}
-use Rattle.std.specs.Option.{unwrap_or}
+use Rattle.std.specs.Prelude.{◌≡◌, ◌≤◌, ◌⊎◌, ℕ, List, length, drop, Option, Some, None, Bool, true, nat_eq, if◌then◌else◌, unwrap_or}
 use Rattle.wasmi_meter.specs.declared.{limiter.Kind.Kind, quota.Quota.Quota}
 use Rattle.wasmi_meter.specs.declared.limiter.Kind.TheVariants.{Bytes, Elements}
 use Rattle.wasmi_meter.specs.Limiter.{Rules, optional_rules}
@@ -51,12 +50,11 @@ placed numbers region = record { numbers = numbers; region = region }
 
 -- the meter of numbers
 abbrev pub meter_of : MeterNumbers → Meter
-meter_of h = types.meter_of (if_flag h.is_on h.left)
-    (record {
-      bytes_copied_per_fuel = h.bytes_copied_per_fuel;
-      fuel_per_bytes_translated = h.fuel_per_bytes_translated;
-      fuel_per_bytes_validated = h.fuel_per_bytes_validated;
-    })
+meter_of h = types.meter_of (if_flag h.is_on h.left) (record {
+  bytes_copied_per_fuel = h.bytes_copied_per_fuel;
+  fuel_per_bytes_translated = h.fuel_per_bytes_translated;
+  fuel_per_bytes_validated = h.fuel_per_bytes_validated;
+})
 
 -- the numbers of a meter with so much left, if it is on
 abbrev pub with_left : MeterNumbers → Option ℕ → MeterNumbers

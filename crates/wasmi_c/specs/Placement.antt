@@ -5,13 +5,13 @@ use Rattle.wasmi_meter.specs.declared.{limiter.Kind.Kind, quota.Quota.Quota}
 use Rattle.wasmi_meter.specs.Limiter.{optional_rules, Rules}
 use Rattle.wasmi_meter.specs.Meter.{Meter}
 use Rattle.wasmi_store.specs.Growth.{Growth, Grows, metered_value, Makes}
-use Rattle.wasmi_c.specs.Host.{fresh, host_rules, is_about, plain_sizes, answer_of, notice_answer_of, memory_growth}
+use Rattle.wasmi_c.specs.Host.{fresh, host_rules, is_about, plain_sizes, answer_of, notice_answer_of}
 use Rattle.wasmi_c.specs.Numbers.{meter_of, KeepsMeter, Embedded, MeteredRegion, Placed, ReleasesIf, SameRest}
 use Rattle.wasmi_c.specs.declared.status.TheConstants.{DONE, INVALID_STATE, ASKS, NOT_HELD, OTHER_SIZE}
 use Rattle.wasmi_c.specs.declared.{host.HostAnswers.HostAnswers, host.Question.Question}
 use Rattle.wasmi_meter.specs.Attempt.{Request}
 use Rattle.wasmi_store.specs.Buffer.{Room}
-use Rattle.wasmi_store.specs.Memory.{MemoryValue, creation_of, new_memory, MemoryTypeValue}
+use Rattle.wasmi_store.specs.Memory.{MemoryValue, creation_of, new_memory, MemoryTypeValue, memory_growth}
 use Rattle.wasmi_store.specs.Table.{TableValue, new_table, TableTypeValue}
 use Rattle.wasmi_region.specs.Table.{creation_in, region_growth}
 use Rattle.wasmi_meter.specs.Limiter as limiter
@@ -46,8 +46,7 @@ module _ {H T V E : Type 0} (p : Placement H T V E) where
   ByType h region status Same Acts =
       (IsNone h region × (status ≡ INVALID_STATE) × Same) ⊎ ((ty : T) × p.IsAt h region ty × Acts ty)
 
-  -- a copy from other numbers by a call acts by the types of both; where either stand for nothing, the status says so,
-  -- and all is the same
+  -- a copy from other numbers acts by both types; where either stand for nothing, the status says so, and all stays
   abbrev pub ByTypes : Placed H → Placed H → ℕ → Type 0 → (T → T → Type 0) → Type 0
   ByTypes source a status Same Acts =
       ((IsNone a.numbers a.region ⊎ IsNone source.numbers source.region) × (status ≡ INVALID_STATE) × Same)
@@ -165,7 +164,7 @@ SettlesCreation {T = T} {E = E} {S = S} rules e made = (a a' : HostAnswers) (l :
 module _ {S : Type 0} (rules : Rules S) where
   -- every growth of a memory by the host's answers is one by rules that allow these answers
   abbrev pub SettlementsAreGrowths : Type 0
-  SettlementsAreGrowths = (pages : ℕ) (x : MemoryValue) → SettlesGrowth rules (memory_growth x pages) x
+  SettlementsAreGrowths = (pages : ℕ) (x : MemoryValue) → SettlesGrowth rules (memory_growth pages x) x
 
   -- every growth of a table on a region by the host's answers is one by rules that allow these answers
   abbrev pub TableSettlementsAreGrowths : Type 0

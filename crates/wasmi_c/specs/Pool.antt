@@ -14,7 +14,7 @@ use Rattle.wasmi_c.specs.Machine.CallStructs.{call_of}
 use Rattle.wasmi_c.specs.Machine.NewMachines.{meter_with}
 use Rattle.wasmi_c.specs.Machine.Replies.{only, with_number, reply_struct, status_of}
 use Rattle.wasmi_c.specs.Types.{reference_type_of}
-use Rattle.wasmi_c.specs.declared.status.TheConstants.{DONE, HAS_POOL, NO_CALL, NO_POOL, NO_ROOM, NO_TENANT}
+use Rattle.wasmi_c.specs.declared.status.TheConstants.{DONE, HAS_POOL, NO_CALL, NO_ROOM, NO_TENANT}
 use Rattle.wasmi_c.specs.declared.{machine.call_struct.CallStruct.CallStruct, machine.limits.Limits.Limits, machine.limits.Room.Room, machine.limits.Totals.Totals, machine.reply_struct.ReplyStruct.ReplyStruct}
 
 -- a pool with these caps and no tenant
@@ -120,7 +120,7 @@ abbrev pub TenantRepliesToList
 TenantRepliesToList tenant calls old left pool pool' = MatchOption (machine_of pool tenant)
     ((left ≡ (NO_TENANT, old)) × (pool' ≡ pool))
     (λ machine. RepliesInTurn (λ numbers before reply after. TenantRepliesToStruct tenant numbers reply before after)
-    calls pool old left pool')
+    calls old pool left pool')
 
 -- a tenant's bytes are copied to the caller's, which stay where there is no such tenant; the pool is the same
 abbrev pub TenantReadsOut : ℕ → ℕ → ℕ → List ℕ → ReplyStruct → List ℕ → PoolValue → PoolValue → Type 0
@@ -150,7 +150,3 @@ tenant_totals tenant pool = elim (machine_of pool tenant) [
 -- what all tenants' machines have
 abbrev pub pool_totals : PoolValue → Totals
 pool_totals pool = totals_in DONE (total_of pool.machines Bytes) (total_of pool.machines Elements)
-
--- the totals where there is no pool
-abbrev pub no_pool_totals : Totals
-no_pool_totals = totals_in NO_POOL 0 0

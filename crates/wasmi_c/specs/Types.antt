@@ -1,6 +1,5 @@
 -- The types and meters that plain numbers stand for, if their limits are in order.
-use Rattle.std.specs.Prelude.{ℕ, ◌^◌, Bool, true, ◌&&◌, nat_eq, nat_le, nat_lt, if◌then◌else◌, Option, Some, None, List, [], ◌∷◌}
-use Rattle.std.specs.List.{slice_get}
+use Rattle.std.specs.Prelude.{ℕ, ◌^◌, Bool, true, ◌&&◌, nat_eq, nat_le, nat_lt, if◌then◌else◌, Option, Some, None, [], ◌∷◌, slice_get}
 use Rattle.std.specs.Option.{option_map_or, option_and_then}
 use Rattle.wasmi_types.specs.Value.{address_bits, reference_of}
 use Rattle.wasmi_types.specs.declared.{index_ty.IndexType.IndexType, value.ValType.ValType, value.RefType.RefType}
@@ -23,14 +22,10 @@ where_true test x = if test x then Some x else None
 abbrev pub u32_of : ℕ → Option ℕ
 u32_of number = where_true (λ n. nat_lt n (2 ^ 32)) number
 
--- the value types, by number
-abbrev pub val_types : List ValType
-val_types =
-    types.I32 ∷ types.I64 ∷ types.F32 ∷ types.F64 ∷ types.V128 ∷ types.FuncRef ∷ types.ExternRef ∷ []
-
 -- the value type of a number, if there is one
 abbrev pub val_type_of : ℕ → Option ValType
-val_type_of number = slice_get val_types number
+val_type_of =
+    slice_get (types.I32 ∷ types.I64 ∷ types.F32 ∷ types.F64 ∷ types.V128 ∷ types.FuncRef ∷ types.ExternRef ∷ [])
 
 -- the reference type of a number, if there is one
 abbrev pub reference_type_of : ℕ → Option RefType

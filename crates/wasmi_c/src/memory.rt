@@ -4,12 +4,12 @@ ghost use Rattle.std.specs.Prelude.{◌≡◌, ◌≤◌, ◌+◌, ◌/◌, ◌^
 ghost use Rattle.wasmi_meter.specs.Capped.{quota_rules};
 ghost use Rattle.wasmi_meter.specs.Limiter.{optional_rules};
 ghost use Rattle.wasmi_store.specs.Buffer.{Lent};
-ghost use Rattle.wasmi_store.specs.Memory.{IsSized, MakesMemory, MemoryTypeValue, in_bounds, minimum_bytes, named_type, page_bytes};
+ghost use Rattle.wasmi_store.specs.Memory.{IsSized, MakesMemory, MemoryTypeValue, in_bounds, memory_growth, minimum_bytes, named_type, page_bytes};
 ghost use Rattle.wasmi_region.specs.Memory.{made_in, made_in_zeros, memory_in, zeroed};
-ghost use Rattle.wasmi_c.specs.Host.{is_about, memory_growth};
+ghost use Rattle.wasmi_c.specs.Host.{is_about};
 ghost use Rattle.wasmi_c.specs.MemoryCalls.{AsksEmbedded, CopiesBytesEmbedded, CountsEmbedded, EndsMemory, IsNoType, MakesEmbedded, ReadsEmbedded, WritesBytesEmbedded, WritesEmbedded, by_pages, copied_range, filled_range, made_over, of_memory};
 ghost use Rattle.wasmi_c.specs.Placement.{GrowsAs, GrowsBy, IsNone, SettlesBy, status_of, written_number};
-ghost use Rattle.wasmi_c.specs.Numbers.{embedded, limiter_of, metered_region, placed, settings_of, IsState, KeepsQuota};
+ghost use Rattle.wasmi_c.specs.Numbers.{embedded, limiter_of, metered_region as metered, placed, settings_of, IsState, KeepsQuota};
 
 use crate::host::{HostAnswers, Question};
 use crate::numbers::{MemoryNumbers, MeterNumbers, QuotaNumbers, Range, type_or_return};
@@ -68,8 +68,7 @@ pub fn make(memory: &mut MemoryNumbers, region: &mut [u8], quota: &mut QuotaNumb
 /// already, and writes no byte of it. Where they aren't zeros, the memory has what stands there.
 pub fn make_zeroed(memory: &mut MemoryNumbers, region: &[u8], quota: &mut QuotaNumbers) -> u8
     ensures made { MakesEmbedded (placed memory.old region.now) (limiter_of quota.old) result
-        (placed memory.new (made_over region.now memory.new.size result))
-        (limiter_of quota.new) }
+        (placed memory.new (made_over region.now memory.new.size result)) (limiter_of quota.new) }
     ensures quota { KeepsQuota quota.old quota.new }
     ensures invalid { IsNoType memory.old → quota.new ≡ quota.old }
     ensures unasked { (ty : MemoryTypeValue) → named_type (settings_of memory.old) ≡ Some ty
@@ -270,7 +269,7 @@ fn are_about(
 ) -> bool
     requires state { IsState memory.now region.now ty }
     ensures about { result ≡ is_about answers.now
-        (memory_growth (memory_in ty region.now memory.now.size) pages) }
+        (memory_growth pages (memory_in ty region.now memory.now.size)) }
 {
     let asked = region_memory::question(ty, memory.size, pages);
     let is_desired = asked.is_none_or(|(desired, _)| desired == answers.desired);
@@ -329,8 +328,7 @@ pub fn fill(
     number: &mut u64,
 ) -> u8
     ensures { WritesBytesEmbedded (filled_range value) range.now memory.now
-        (metered_region region.old meter.old number.old) result
-        (metered_region region.new meter.new number.new) }
+        (metered region.old meter.old number.old) result (metered region.new meter.new number.new) }
 {
     type_or_return!(_ty, memory, region);
     let mut fuel = meter.fuel();
@@ -349,8 +347,7 @@ pub fn copy_within(
     number: &mut u64,
 ) -> u8
     ensures { WritesBytesEmbedded (λ r bytes. copied_range bytes r bytes) range.now memory.now
-        (metered_region region.old meter.old number.old) result
-        (metered_region region.new meter.new number.new) }
+        (metered region.old meter.old number.old) result (metered region.new meter.new number.new) }
 {
     type_or_return!(_ty, memory, region);
     let mut fuel = meter.fuel();
@@ -372,8 +369,7 @@ pub fn copy(
     number: &mut u64,
 ) -> u8
     ensures { CopiesBytesEmbedded (placed source.now source_region.now) range.now memory.now
-        (metered_region region.old meter.old number.old) result
-        (metered_region region.new meter.new number.new) }
+        (metered region.old meter.old number.old) result (metered region.new meter.new number.new) }
 {
     type_or_return!(_source_ty, source, source_region);
     let bytes = &source_region[..source.size];
@@ -390,8 +386,7 @@ pub fn init(
     number: &mut u64,
 ) -> u8
     ensures { WritesBytesEmbedded (copied_range bytes.now) range.now memory.now
-        (metered_region region.old meter.old number.old) result
-        (metered_region region.new meter.new number.new) }
+        (metered region.old meter.old number.old) result (metered region.new meter.new number.new) }
 {
     type_or_return!(_ty, memory, region);
     let mut fuel = meter.fuel();

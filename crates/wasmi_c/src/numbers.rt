@@ -1,4 +1,5 @@
-//! The plain numbers of memories, tables, meters, quotas and ranges that lie with C: any numbers.
+//! The plain numbers of memories, tables, meters, quotas and ranges that lie with C, any numbers,
+//! and what each of them stands for.
 ghost use Rattle.std.specs.Prelude.{◌≡◌, IsFalse, MatchOption, OnSome, Some};
 ghost use Rattle.wasmi_store.specs.Memory.{MemoryTypeValue, IsValid, named_type};
 ghost use Rattle.wasmi_store.specs.Table.{TableTypeValue};
@@ -54,8 +55,7 @@ impl MemoryNumbers {
 
     /// The type, if the numbers stand for a memory at the front of a region.
     pub fn type_if_valid(&self, region: &[u8]) -> Option<MemoryType>
-        ensures { MatchOption result
-            ((ty : MemoryTypeValue) → IsState self.now region.now ty → ⊥)
+        ensures { MatchOption result ((ty : MemoryTypeValue) → IsState self.now region.now ty → ⊥)
             (λ ty. IsState self.now region.now ty) }
     {
         let ty = self.ty()?;
@@ -93,8 +93,7 @@ impl TableNumbers {
 
     /// The type, if the numbers stand for a table at the front of a region.
     pub fn type_if_valid(&self, region: &[u32]) -> Option<TableType>
-        ensures { MatchOption result
-            ((ty : TableTypeValue) → IsTable self.now region.now ty → ⊥)
+        ensures { MatchOption result ((ty : TableTypeValue) → IsTable self.now region.now ty → ⊥)
             (λ ty. IsTable self.now region.now ty) }
     {
         let ty = self.table_type()?;
@@ -169,7 +168,7 @@ pub struct QuotaNumbers {
 }
 
 impl QuotaNumbers {
-    /// The quota, if there is one.
+    /// The quota that these numbers stand for, if there is a limiter.
     pub fn quota(&self) -> Option<Quota>
         ensures value { result ≡ limiter_of self.now }
         ensures on { OnSome result (self.now.is_on ≡ 0 → ⊥) }

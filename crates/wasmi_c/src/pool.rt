@@ -43,13 +43,14 @@ macro_rules! on_pool {
         $crate::on_pool!($handle, ReplyStruct::only(NO_POOL), $pool => $call)
     };
     ($handle:expr, $none:expr, $pool:ident => $call:expr) => {{
-        if !$handle.is_made() {
-            return $none;
+        if $handle.is_made() {
+            let $pool = $handle.pool.pool_mut();
+            let reply = $call;
+            $pool.show_within();
+            reply
+        } else {
+            $none
         }
-        let $pool = $handle.pool.pool_mut();
-        let reply = $call;
-        $pool.show_within();
-        reply
     }};
 }
 
@@ -233,8 +234,7 @@ impl TenantPool {
         DONE
     }
 
-    /// Reserves so many more slots of each kind on the machine of a tenant. If memory for some is
-    /// refused, none more is.
+    /// Reserves so many more slots of each kind on a tenant's machine, or none if some are refused.
     pub fn reserve(&mut self, tenant: usize, room: &Room) -> u8
         ensures step { TenantReserves tenant room.now result self.old self.new }
         ensures caps { self.new.caps ≡ self.old.caps }
@@ -258,7 +258,6 @@ impl TenantPool {
         }
     }
 
-    /// Loads an item from a memory of a tenant.
     #[inline(always)]
     #[tactic(auto, unfolding(crate::specs::Pool::TenantReplies))]
     fn load_reply(
@@ -279,7 +278,6 @@ impl TenantPool {
         }
     }
 
-    /// Stores an item to a memory of a tenant.
     #[inline(always)]
     fn store_reply(
         &mut self,
@@ -304,7 +302,6 @@ impl TenantPool {
         self.reply(tenant, &call)
     }
 
-    /// Replies to one call on the machine of a tenant.
     #[inline(always)]
     #[tactic(auto, unfolding(crate::specs::Pool::TenantReplies))]
     fn reply(&mut self, tenant: usize, call: &Call) -> ReplyStruct
@@ -470,8 +467,7 @@ impl TenantPool {
             .status
     }
 
-    /// Executes the instruction on two vectors that has the number, if there is one, on the machine
-    /// of a tenant.
+    /// Executes the instruction on two vectors that has the number, if any, on a tenant's machine.
     #[inline(always)]
     #[tactic(auto, unfolding(crate::specs::Pool::TenantRepliesInStatus))]
     pub fn binary(&mut self, tenant: usize, number: u16, dst: u8, a: u8, b: u8) -> u8
@@ -513,8 +509,7 @@ impl TenantPool {
         }
     }
 
-    /// Fills a range of a memory of a tenant with a byte, and leaves a status and a word of the
-    /// reply.
+    /// Fills a range of a tenant's memory with a byte, and leaves a status and a word of the reply.
     #[inline(always)]
     pub fn fill(
         &mut self,

@@ -6,8 +6,7 @@ use std::alloc::Global;
 use wasmi_script::replay_bytes;
 
 /// Runs a script, and writes what it prints to the front of `text`; `needed` becomes its length in
-/// bytes. The status is the program's (docs/SCRIPT.md), or 5 if `text` is shorter: then nothing is
-/// written to it.
+/// bytes. The status is the program's (docs/SCRIPT.md), or 5 if `text` is shorter, which stays.
 pub fn run(alloc: Global, script: &[u8], text: &mut [u8], needed: &mut usize) -> u8
     ensures answers { AnswersScript script.now text.old text.new needed.new result }
 {

@@ -8,7 +8,7 @@ ghost use Rattle.wasmi_store.specs.Table.{IsSized, TableTypeValue, is_indexable,
 ghost use Rattle.wasmi_region.specs.Table.{made_in, table_in, items_of, region_growth, MakesTableIn};
 ghost use Rattle.wasmi_c.specs.Host.{is_about};
 ghost use Rattle.wasmi_c.specs.Placement.{GrowsAs, GrowsBy, IsNone, SettlesBy, status_of, written_number};
-ghost use Rattle.wasmi_c.specs.Numbers.{embedded, limiter_of, metered_region, placed, table_type_of, IsTable, KeepsQuota, SameRest};
+ghost use Rattle.wasmi_c.specs.Numbers.{embedded, limiter_of, metered_region as metered, placed, table_type_of, IsTable, KeepsQuota, SameRest};
 ghost use Rattle.wasmi_c.specs.TableCalls.{AsksTableEmbedded, CopiesEmbedded, CountsElements, EndsTable, GetsElement, MakesTableEmbedded, SetsElement, WritesTableEmbedded, by_elements, of_table};
 
 use crate::host::{HostAnswers, Question};
@@ -118,8 +118,7 @@ pub fn grow(
     ensures quota { KeepsQuota quota.old quota.new }
     ensures invalid { IsNone of_table table.old region.old → quota.new ≡ quota.old }
     ensures unasked { (ty : TableTypeValue) → IsTable table.old region.old ty
-        → (delta ≡ 0) ⊎ (is_indexable ty (table.old.size + delta) ≡ false)
-        → quota.new ≡ quota.old }
+        → (delta ≡ 0) ⊎ (is_indexable ty (table.old.size + delta) ≡ false) → quota.new ≡ quota.old }
 {
     type_or_return!(ty, table, region);
     grow_under(table, ty, region, delta, reference, meter, quota, number)
@@ -257,8 +256,8 @@ pub fn fill(
     number: &mut u64,
 ) -> u8
     ensures { WritesTableEmbedded (λ ty. raw_filling_of range.now.to reference range.now.count)
-        table.now (metered_region region.old meter.old number.old) result
-        (metered_region region.new meter.new number.new) }
+        table.now (metered region.old meter.old number.old) result
+        (metered region.new meter.new number.new) }
 {
     type_or_return!(ty, table, region);
     let mut fuel = meter.fuel();
@@ -278,8 +277,8 @@ pub fn copy_within(
 ) -> u8
     ensures { WritesTableEmbedded (λ ty. copy_of range.now.to range.now.from range.now.count
         (table_in ty region.old table.now.size))
-        table.now (metered_region region.old meter.old number.old) result
-        (metered_region region.new meter.new number.new) }
+        table.now (metered region.old meter.old number.old) result
+        (metered region.new meter.new number.new) }
 {
     type_or_return!(ty, table, region);
     let mut fuel = meter.fuel();
@@ -301,8 +300,7 @@ pub fn copy(
     number: &mut u64,
 ) -> u8
     ensures { CopiesEmbedded (placed source.now source_region.now) range.now table.now
-        (metered_region region.old meter.old number.old) result
-        (metered_region region.new meter.new number.new) }
+        (metered region.old meter.old number.old) result (metered region.new meter.new number.new) }
 {
     type_or_return!(ty, table, region);
     type_or_return!(source_ty, source, source_region);
@@ -326,8 +324,8 @@ pub fn init(
 ) -> u8
     ensures { WritesTableEmbedded (λ ty. initialization_of range.now.to range.now.from
         range.now.count (items_of ty items.now))
-        table.now (metered_region region.old meter.old number.old) result
-        (metered_region region.new meter.new number.new) }
+        table.now (metered region.old meter.old number.old) result
+        (metered region.new meter.new number.new) }
 {
     type_or_return!(ty, table, region);
     let mut fuel = meter.fuel();

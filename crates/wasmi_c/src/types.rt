@@ -1,5 +1,4 @@
-//! The types and meters that plain numbers stand for, and numbers that fit 32 bits or that a flag
-//! says are there.
+//! The types and meters of plain numbers; numbers that fit 32 bits or that a flag says are there.
 ghost use Rattle.std.specs.Prelude.{◌≡◌, MatchOption, Some};
 ghost use Rattle.wasmi_store.specs.Memory.{IsValid, MemoryTypeValue, named_type};
 ghost use Rattle.wasmi_c.specs.Types.{if_flag, memory_type_of, meter_of, reference_type_of, settings_of, table_type_of, u32_of, val_type_of};

@@ -2,10 +2,10 @@
 //! `tools/header` writes this file, by the rows of `tools/exports.toml`.
 ghost use Rattle.std.specs.Prelude.{◌≡◌, ℕ, List, None, Some};
 ghost use Rattle.wasmi_machine.specs.declared.calls.Call.TheVariants.{CopyMemory, FillMemory, GetFuel, GrowMemory, InitMemory, NewData, Write};
-ghost use Rattle.wasmi_c.specs.Machine.Calls.{RepliesInStatus, RepliesInWord, item_load, item_store, vector_binary, ActsOnHeld, OnHeld, ReadsOut, RepliesToCopy, RepliesToItems, RepliesToList, RepliesToSegment, RepliesToStruct, Reserves, PaysFuel, no_totals, totals_of, RunsLines, ReservesElementsByStatus};
+ghost use Rattle.wasmi_c.specs.Machine.Calls.{RepliesInStatus, RepliesInTurn, RepliesInWord, item_load, item_store, vector_binary, ActsOnHeld, OnHeld, ReadsOut, RepliesToCopy, RepliesToItems, RepliesToSegment, RepliesToStruct, Reserves, PaysFuel, totals_in, totals_of, RunsLines, ReservesElementsByStatus};
 ghost use Rattle.wasmi_c.specs.Machine.NewMachines.{IsNewMachine, MakesMachine, MakesWithAnswers};
 ghost use Rattle.wasmi_c.specs.Machine.Replies.{only};
-ghost use Rattle.wasmi_c.specs.Pool.{AddsNewTenant, KeepsCaps, MakesPool, RemovesByStatus, RunsTenantLines, TenantPaysFuel, TenantReadsOut, TenantRepliesInStatus, TenantRepliesInWord, TenantRepliesToCopy, TenantRepliesToItems, TenantRepliesToList, TenantRepliesToSegment, TenantRepliesToStruct, TenantReserves, no_pool_totals, pool_totals, tenant_totals, TenantReservesElements};
+ghost use Rattle.wasmi_c.specs.Pool.{AddsNewTenant, KeepsCaps, MakesPool, RemovesByStatus, RunsTenantLines, TenantPaysFuel, TenantReadsOut, TenantRepliesInStatus, TenantRepliesInWord, TenantRepliesToCopy, TenantRepliesToItems, TenantRepliesToList, TenantRepliesToSegment, TenantRepliesToStruct, TenantReserves, pool_totals, tenant_totals, TenantReservesElements};
 ghost use Rattle.wasmi_c.specs.declared.status.TheConstants.{NO_MACHINE, NO_POOL};
 ghost use Rattle.wasmi_c.specs.declared.machine.reply_struct.ReplyStruct.{ReplyStruct};
 
@@ -80,7 +80,7 @@ pub extern "C" fn wasmi_machine_run_into(
     calls: &[CallStruct],
     replies: &mut [ReplyStruct],
 ) -> u8
-    ensures { OnHeld (RepliesToList calls.now replies.old) (NO_MACHINE, replies.old)
+    ensures { OnHeld (RepliesInTurn RepliesToStruct calls.now replies.old) (NO_MACHINE, replies.old)
         handle.old.machine.held (result, replies.new) handle.new.machine.held }
 {
     on_machine!(handle, NO_MACHINE, machine => machine.run_into(calls, replies))
@@ -144,7 +144,7 @@ pub extern "C" fn wasmi_machine_new_data(
 pub extern "C" fn wasmi_machine_totals(handle: &mut Handle) -> Totals
     ensures { OnHeld
         (λ machine totals machine'. (machine' ≡ machine) × (totals ≡ totals_of machine))
-        no_totals handle.old.machine.held result handle.new.machine.held }
+        (totals_in NO_MACHINE 0 0) handle.old.machine.held result handle.new.machine.held }
 {
     on_machine!(handle, Totals::from_amounts(NO_MACHINE, 0, 0), machine => machine.totals())
 }
@@ -604,7 +604,8 @@ pub extern "C" fn wasmi_pool_run_lines(
 
 #[unsafe(no_mangle)]
 pub extern "C" fn wasmi_pool_tenant_totals(handle: &mut PoolHandle, tenant: usize) -> Totals
-    ensures step { ActsOnHeld no_pool_totals handle.old.pool.held result handle.new.pool.held
+    ensures step { ActsOnHeld (totals_in NO_POOL 0 0) handle.old.pool.held result
+        handle.new.pool.held
         (λ pool pool'. (pool' ≡ pool) × (result ≡ tenant_totals tenant pool)) }
     ensures caps { KeepsCaps handle.old.pool.held handle.new.pool.held }
 {
@@ -613,7 +614,8 @@ pub extern "C" fn wasmi_pool_tenant_totals(handle: &mut PoolHandle, tenant: usiz
 
 #[unsafe(no_mangle)]
 pub extern "C" fn wasmi_pool_totals(handle: &mut PoolHandle) -> Totals
-    ensures step { ActsOnHeld no_pool_totals handle.old.pool.held result handle.new.pool.held
+    ensures step { ActsOnHeld (totals_in NO_POOL 0 0) handle.old.pool.held result
+        handle.new.pool.held
         (λ pool pool'. (pool' ≡ pool) × (result ≡ pool_totals pool)) }
     ensures caps { KeepsCaps handle.old.pool.held handle.new.pool.held }
 {

@@ -39,8 +39,7 @@ pub extern "C" fn wasmi_memory_new_zeroed(
     quota: &mut QuotaNumbers,
 ) -> u8
     ensures made { MakesEmbedded (placed memory.old region.now) (limiter_of quota.old) result
-        (placed memory.new (made_over region.now memory.new.size result))
-        (limiter_of quota.new) }
+        (placed memory.new (made_over region.now memory.new.size result)) (limiter_of quota.new) }
     ensures quota { KeepsQuota quota.old quota.new }
     ensures invalid { IsNoType memory.old → quota.new ≡ quota.old }
     ensures unasked { (ty : MemoryTypeValue) → named_type (settings_of memory.old) ≡ Some ty
@@ -176,8 +175,7 @@ pub extern "C" fn wasmi_memory_fill(
     number: &mut u64,
 ) -> u8
     ensures { WritesBytesEmbedded (filled_range value) range.now memory.now
-        (metered_region region.old meter.old number.old) result
-        (metered_region region.new meter.new number.new) }
+        (metered region.old meter.old number.old) result (metered region.new meter.new number.new) }
 {
     on_memory::fill(memory, region, range, value, meter, number)
 }
@@ -191,8 +189,7 @@ pub extern "C" fn wasmi_memory_copy_within(
     number: &mut u64,
 ) -> u8
     ensures { WritesBytesEmbedded (λ r bytes. copied_range bytes r bytes) range.now memory.now
-        (metered_region region.old meter.old number.old) result
-        (metered_region region.new meter.new number.new) }
+        (metered region.old meter.old number.old) result (metered region.new meter.new number.new) }
 {
     on_memory::copy_within(memory, region, range, meter, number)
 }
@@ -208,8 +205,7 @@ pub extern "C" fn wasmi_memory_copy(
     number: &mut u64,
 ) -> u8
     ensures { CopiesBytesEmbedded (placed source.now source_region.now) range.now memory.now
-        (metered_region region.old meter.old number.old) result
-        (metered_region region.new meter.new number.new) }
+        (metered region.old meter.old number.old) result (metered region.new meter.new number.new) }
 {
     on_memory::copy(memory, region, source, source_region, range, meter, number)
 }
@@ -224,8 +220,7 @@ pub extern "C" fn wasmi_memory_init(
     number: &mut u64,
 ) -> u8
     ensures { WritesBytesEmbedded (copied_range bytes.now) range.now memory.now
-        (metered_region region.old meter.old number.old) result
-        (metered_region region.new meter.new number.new) }
+        (metered region.old meter.old number.old) result (metered region.new meter.new number.new) }
 {
     on_memory::init(memory, region, bytes, range, meter, number)
 }

@@ -44,8 +44,7 @@ pub extern "C" fn wasmi_table_grow(
     ensures quota { KeepsQuota quota.old quota.new }
     ensures invalid { IsNone of_table table.old region.old → quota.new ≡ quota.old }
     ensures unasked { (ty : TableTypeValue) → IsTable table.old region.old ty
-        → (delta ≡ 0) ⊎ (is_indexable ty (table.old.size + delta) ≡ false)
-        → quota.new ≡ quota.old }
+        → (delta ≡ 0) ⊎ (is_indexable ty (table.old.size + delta) ≡ false) → quota.new ≡ quota.old }
 {
     on_table::grow(table, region, delta, reference, meter, quota, number)
 }
@@ -135,8 +134,8 @@ pub extern "C" fn wasmi_table_fill(
     number: &mut u64,
 ) -> u8
     ensures { WritesTableEmbedded (λ ty. raw_filling_of range.now.to reference range.now.count)
-        table.now (metered_region region.old meter.old number.old) result
-        (metered_region region.new meter.new number.new) }
+        table.now (metered region.old meter.old number.old) result
+        (metered region.new meter.new number.new) }
 {
     on_table::fill(table, region, range, reference, meter, number)
 }
@@ -151,8 +150,8 @@ pub extern "C" fn wasmi_table_copy_within(
 ) -> u8
     ensures { WritesTableEmbedded (λ ty. copy_of range.now.to range.now.from range.now.count
         (table_in ty region.old table.now.size))
-        table.now (metered_region region.old meter.old number.old) result
-        (metered_region region.new meter.new number.new) }
+        table.now (metered region.old meter.old number.old) result
+        (metered region.new meter.new number.new) }
 {
     on_table::copy_within(table, region, range, meter, number)
 }
@@ -167,8 +166,8 @@ pub extern "C" fn wasmi_table_copy(
 ) -> u8
     ensures { WritesTableEmbedded (λ ty. copy_of range.now.to range.now.from range.now.count
         (table_in ty region.old table.now.size))
-        table.now (metered_region region.old meter.old number.old) result
-        (metered_region region.new meter.new number.new) }
+        table.now (metered region.old meter.old number.old) result
+        (metered region.new meter.new number.new) }
 {
     on_table::copy_within(table, region, range, meter, number)
 }
@@ -184,8 +183,7 @@ pub extern "C" fn wasmi_table_copy_from(
     number: &mut u64,
 ) -> u8
     ensures { CopiesEmbedded (placed source.now source_region.now) range.now table.now
-        (metered_region region.old meter.old number.old) result
-        (metered_region region.new meter.new number.new) }
+        (metered region.old meter.old number.old) result (metered region.new meter.new number.new) }
 {
     on_table::copy(table, region, source, source_region, range, meter, number)
 }
@@ -201,8 +199,8 @@ pub extern "C" fn wasmi_table_init(
 ) -> u8
     ensures { WritesTableEmbedded (λ ty. initialization_of range.now.to range.now.from
         range.now.count (items_of ty items.now))
-        table.now (metered_region region.old meter.old number.old) result
-        (metered_region region.new meter.new number.new) }
+        table.now (metered region.old meter.old number.old) result
+        (metered region.new meter.new number.new) }
 {
     on_table::init(table, region, items, range, meter, number)
 }

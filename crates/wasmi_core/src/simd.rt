@@ -1,5 +1,4 @@
 //! The vector instructions, the loads and stores of vectors, and the lane types and indices.
-//!
 //! Upstream: `wasmi_core::simd`.
 
 // Lanes, their indices, and vectors as lanes.

@@ -2,9 +2,7 @@
 //!
 //! A load or store without `_at` accesses the address `ptr + offset`, one with `_at` the given
 //! address; addresses count bytes. The only error of all 38 is `TrapCode::MemoryOutOfBounds`, if
-//! the access ends past the end of the memory; then nothing is written.
-//!
-//! Upstream: `wasmi_core::wasm`.
+//! the access ends past the memory; then nothing is written. Upstream: `wasmi_core::wasm`.
 
 // Loads and stores.
 pub use wasmi_access::wasm::{

@@ -1,5 +1,5 @@
--- A plug-in's machine is within the caps of its quota, a memory is within the limit of a limiter of one's own, and the
--- bill of a run is right.
+-- A plug-in's machine is within the caps of its quota; growths of a memory under a limiter of one's own (`AtMost`): the
+-- limiter stays, and a memory within its limit stays within it; and the bill of a run is right.
 use Rattle.std.proofs.Common.{ℕ, ◌≡◌, ◌≤◌, Some, List, sym, arith, ◌∙◌, ◌+◌, ◌*◌, true, nat_le, Option, None, Result, length, replicate, ap, inl, inr, length-append, ◌-◌, All, unwrap_or}
 use Rattle.std.proofs.lemmas.Option.{same_Some}
 use Rattle.wasmi_meter.specs.declared.limiter.Kind.TheVariants.{Bytes, Elements}
@@ -65,7 +65,7 @@ module _ (l l' : AtMost) where
   value_within x pages outcome follows small = small
 
   module _ (x x' : MemoryValue) (m m' : Option Meter) where
-    -- a memory has grown under the limiter
+    -- a memory has grown under a limiter of one's own
     abbrev Grown : ℕ → Result ℕ MemoryError → ℕ → Type 0
     Grown pages result charge = GrowsMemoryCharging (optional_rules at_most_rules) pages (metered_value x m (Some l))
         result charge (metered_value x' m' (Some l'))

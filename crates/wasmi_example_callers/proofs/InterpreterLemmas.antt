@@ -56,7 +56,7 @@ module _ (s s' : State) (result : Result ℕ FuelError)
   pub told : Tells s s' result
   told = told_by s.meter.left refl
 
--- a reply that is neither a number nor an error of a memory gives no result
+-- a reply to a growth of the interpreter that is neither a number nor an error of a memory gives no result
 pub no_result : (reply : Reply) → ((size : ℕ) → reply ≡ Number size → ⊥)
     → ((error : MemoryError) → reply ≡ Memory error → ⊥) → grow_result reply ≡ None
 no_result (Number size) number memory = absurd (number size refl)

@@ -1,5 +1,4 @@
--- What the words of a command mean, the limits and the type of a memory or a table that they name, and the words that a
--- command begins with.
+-- What the words of a command mean, the limits and the type of a memory or a table that they name, and its first word.
 use Rattle.std.specs.Prelude.{◌≡◌, ◌⊎◌, ℕ, List, Option, ◌≤◌, length, codes, drop}
 use Rattle.wasmi_types.specs.declared.index_ty.IndexType.{IndexType}
 use Rattle.wasmi_operands.specs.LineWords.{WritesNumber, WritesLimit, LineWords, WritesEach, word_at}

@@ -1,6 +1,6 @@
 -- What the words of a header line or an `as` line mean, and what the header lines ask for: a meter, tenants, a region,
 -- slots, and the machine that a script starts with.
-use Rattle.std.specs.Prelude.{◌≡◌, ◌≤◌, ℕ, Option, List, Some, None, length, codes, replicate}
+use Rattle.std.specs.Prelude.{◌≡◌, ◌≤◌, ℕ, Option, List, Some, None, length, codes, replicate, unwrap_or}
 use Rattle.std.specs.Option.{option_map, option_map_or}
 use Rattle.wasmi_meter.specs.Meter.{default_costs, Meter}
 use Rattle.wasmi_machine.specs.State.{State, new_state, no_slots}
@@ -17,24 +17,14 @@ WritesMeter words Off = (length words ≡ 1) × (word_at words 0 ≡ codes "off"
 WritesMeter words (On bytes_per_fuel) =
     (length words ≡ 2) × (word_at words 0 ≡ codes "on") × WritesNumber 32 (word_at words 1) bytes_per_fuel
 
--- the word that a limiter line begins with
-abbrev pub limiter_word : LimiterLine → List ℕ
-limiter_word (Quota caps) = codes "quota"
-limiter_word (Answers answers) = codes "answers"
-limiter_word (Tenants line) = codes "tenants"
-
--- the words after the first write what the line says
-abbrev pub WritesLimiter : LineWords → LimiterLine → Type 0
-WritesLimiter words (Quota caps) =
-    (length words ≡ 2) × WritesNumber 64 (word_at words 0) caps.bytes × WritesNumber 64 (word_at words 1) caps.elements
-WritesLimiter words (Answers answers) = WritesEach WritesAnswer words answers.items
-WritesLimiter words (Tenants line) =
-    (length words ≡ 3) × WritesNumber 64 (word_at words 0) line.count × (1 ≤ line.count) × (line.count ≤ 1024)
-    × WritesNumber 64 (word_at words 1) line.caps.bytes × WritesNumber 64 (word_at words 2) line.caps.elements
-
 -- the word that a limiter line begins with, and the words after it, name this line
 abbrev pub NamesLimiterAfter : List ℕ → LineWords → LimiterLine → Type 0
-NamesLimiterAfter name operands line = (limiter_word line ≡ name) × WritesLimiter operands line
+NamesLimiterAfter name words (Quota caps) = (codes "quota" ≡ name) × ((length words ≡ 2)
+    × WritesNumber 64 (word_at words 0) caps.bytes × WritesNumber 64 (word_at words 1) caps.elements)
+NamesLimiterAfter name words (Answers answers) = (codes "answers" ≡ name) × WritesEach WritesAnswer words answers.items
+NamesLimiterAfter name words (Tenants line) = (codes "tenants" ≡ name) × ((length words ≡ 3)
+    × WritesNumber 64 (word_at words 0) line.count × (1 ≤ line.count) × (line.count ≤ 1024)
+    × WritesNumber 64 (word_at words 1) line.caps.bytes × WritesNumber 64 (word_at words 2) line.caps.elements)
 
 -- the words after the first write what the region line says
 abbrev pub WritesRegion : LineWords → RegionLine → Type 0
@@ -82,7 +72,7 @@ region_bytes line = replicate line.len line.byte
 
 -- how many slots of each kind the header lines reserve: none without a line that says more
 abbrev pub slots_of : Header → SlotCounts
-slots_of header = option_map_or (λ slots. slots) header.reserve no_slots
+slots_of header = unwrap_or header.reserve no_slots
 
 -- the machine that each tenant of a script starts with: new, with the script's meter and with its slots reserved
 abbrev pub tenant_start : Header → State

@@ -1,8 +1,7 @@
 -- What a line says and adds to a script, the script that the lines of a text lead to, with the list of all its calls,
 -- and the bad lines by which a text isn't parsed.
-use Rattle.std.specs.Prelude.{◌≡◌, ◌<◌, ℕ, ◌⊎◌, List, [], ◌∷◌, ◌++◌, Some, None, ◌==◌, codes, drop, map, ◌+◌, ⊤, length}
+use Rattle.std.specs.Prelude.{◌≡◌, ◌<◌, ℕ, ◌⊎◌, List, [], ◌∷◌, ◌++◌, Some, None, ◌==◌, codes, drop, map, ◌+◌, ⊤, length, IsUtf8}
 use Rattle.std.specs.List.{slice_split}
-use Rattle.std.specs.Str.{IsUtf8}
 use Rattle.wasmi_machine.specs.declared.calls.Call.{Call}
 use Rattle.wasmi_grammar.specs.declared.{header.Header.Header, script.Line.Line, script.Script.Script, error.ParseError.ParseError}
 use Rattle.wasmi_grammar.specs.declared.script.Line.TheVariants.{Meter, Limiter, Region, Reserve, As, Call as Command}
@@ -47,8 +46,7 @@ pub record AddsPart (old : Script) (named : ℕ) (new : Script) : Type 0 where
 -- what a line says, added to the lines before: there is one `meter`, one `region` and one `reserve` line at most, one
 -- limiter line of any kind, and no region beside a pool
 abbrev pub AddsLine : Script → Line → Script → Type 0
-AddsLine old (Meter line) new =
-    AddsHeader old (old.header.meter ≡ None) (record old.header { meter = Some line }) new
+AddsLine old (Meter line) new = AddsHeader old (old.header.meter ≡ None) (record old.header { meter = Some line }) new
 AddsLine old (Limiter line) new =
     AddsHeader old ((old.header.limiter_line ≡ None) × AreApart (Some line) old.header.region)
     (record old.header { limiter_line = Some line }) new

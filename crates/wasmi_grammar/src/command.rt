@@ -17,8 +17,7 @@ use wasmi_store::{MemoryType, TableType};
 use wasmi_typed::{GlobalType, TypedRawRef, TypedRawVal};
 use wasmi_types::{IndexType, RefType};
 
-/// The call of a kind, each part of which is what an operand writes, or is made of what operands
-/// write under these names.
+/// The call of a kind: each part is what an operand writes, or is made of what has these names.
 macro_rules! call {
     ($operands:expr, $count:ident => $kind:ident { $($part:ident),+ }) => {
         call!($operands, $count($($part),+) => $kind { $($part),+ })
@@ -30,7 +29,6 @@ macro_rules! call {
     }};
 }
 
-/// The call of a command with this name and these operands.
 pub(crate) fn command(alloc: Global, name: &str, operands: &[&str]) -> Result<Call, LineError>
     ensures { AcceptsWithMemory result (NamesAfter name.now operands.now) }
 {

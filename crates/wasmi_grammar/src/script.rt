@@ -1,5 +1,4 @@
-//! The script that a text writes: how each line adds to its header or to its calls by parts, and
-//! the parser.
+//! The script that a text writes: how a line adds to its header or its calls by parts; the parser.
 ghost use Rattle.std.specs.Prelude.{◌≡◌, [], ℕ, ◌+◌, ◌-◌, ◌<◌, ◌≤◌, length, take, drop, IfOk, IfErr, OnOk, OnErr};
 ghost use Rattle.wasmi_operands.specs.LineWords.{AcceptsWithMemory};
 ghost use Rattle.wasmi_grammar.specs.Lines.{WritesScript, NamesLine, calls_of, IsParseError};
@@ -95,8 +94,7 @@ impl Parts {
 
     /// Adds a call to the last part.
     fn push(&mut self, call: Call) -> Result<(), AllocError>
-        ensures { OnOk result
-            (self.new ≡ record self.old { calls = self.old.calls ++ call ∷ [] }) }
+        ensures { OnOk result (self.new ≡ record self.old { calls = self.old.calls ++ call ∷ [] }) }
     {
         self.calls.push(call)?;
         Ok(())
@@ -320,8 +318,7 @@ pub fn parse(alloc: Global, bytes: &[u8]) -> Result<Script, ParseError>
     ensures script { IfOk result (WritesScript bytes.now) }
     ensures calls { IfOk result (λ script. length (calls_of script) ≤ length bytes.now + 1) }
     ensures refused { IfErr result (IsParseError bytes.now) }
-    ensures line { IfErr result
-        (λ error. (line : ℕ) → error ≡ ParseError.BadCommand line
+    ensures line { IfErr result (λ error. (line : ℕ) → error ≡ ParseError.BadCommand line
         → (0 < line) × (line ≤ length bytes.now + 1)) }
 {
     let mut script = Script::new(alloc);

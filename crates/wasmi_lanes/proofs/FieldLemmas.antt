@@ -76,7 +76,7 @@ field_mod k w n a within =
     let e : n ≡ (i + w) + k = omega arith in
     ap (λ m. a % 2 ^ m / 2 ^ k % 2 ^ w) e ∙ ap (λ m. m % 2 ^ w) (field_of a (i + w) k) ∙ mod-mod-pow (a / 2 ^ k) i w
 
--- the complement of j + k bits consists of the complements of the upper j bits and of the lower k bits
+-- for a field of a complement: that of j + k bits consists of those of the upper j bits and of the lower k bits
 complement : (j k v : ℕ) → v < 2 ^ (j + k)
     → 2 ^ (j + k) - 1 - v ≡ (2 ^ j - 1 - v / 2 ^ k) * 2 ^ k + (2 ^ k - 1 - v % 2 ^ k)
 complement j k v fits =

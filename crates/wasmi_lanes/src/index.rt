@@ -1,5 +1,4 @@
 //! Immediate lane indices: how one is made of a number, and of which numbers of lanes there are.
-
 ghost use Rattle.std.specs.Prelude.{◌≡◌, ◌<◌, ◌≤◌, ◌*◌, ℕ, Ok, Err, refl};
 ghost use Rattle.std.specs.Result.{OkIff};
 ghost use Rattle.std.proofs.Common.{rules, inl, inr};
@@ -130,8 +129,7 @@ where
     ghost refused = { λ n error is. Prim.search rules };
 }
 
-/// An integer with the index of one of its lanes in a vector, of which there are 128 divided by its
-/// width.
+/// An integer with the index of one of its lanes in a vector, which are 128 divided by its width.
 pub trait IntoLaneIdx: LaneInteger {
     /// The index of a lane of these integers.
     type LaneIdx: LaneIndex;

@@ -1,6 +1,5 @@
 //! Vectors as lanes of one item, and the lane types; lanes made of narrower lanes, and of wider
 //! ones, and numbers clamped to the range of a narrower lane.
-
 ghost use Rattle.std.specs.Prelude.{◌≡◌, refl, ℕ, ◌+◌, ◌*◌, ◌^◌, ◌<◌, [], ◌∷◌, slice_index_or, if◌then◌else◌, ◌==◌, Bool};
 ghost use Rattle.wasmi_types.specs.Numbers.{bits, w8, w16, clamp_signed};
 ghost use Rattle.wasmi_lanes.specs.Vector.{lane, AreWholeLanes, ReducesTo};
@@ -98,8 +97,7 @@ pub trait Lanes: Copy {
         ensures steps { ReducesTo
             (λ i before after. F.post f i (item self i) before after) LANES acc result };
 
-    /// The lanes make 128 bits, there are as many indices, and all ones and all zeros are those of
-    /// the item's type.
+    /// The lanes make 128 bits, there are as many indices, and all ones and zeros are the item's.
     ghost laws: { AreWholeLanes Self.Item.width LANES Self.LaneIdx.COUNT ALL_ONES ALL_ZEROS
         Self.Item.ALL_ONES Self.Item.ALL_ZEROS };
 }

@@ -1,5 +1,4 @@
 //! Laws on the lanes of vectors and of words.
-
 ghost use Rattle.std.specs.Prelude.{◌≡◌, ℕ, ◌+◌, ◌-◌, ◌/◌, ◌%◌, ◌^◌, ◌<◌, ◌==◌, Bool, if◌then◌else◌, List, sum};
 ghost use Rattle.wasmi_types.specs.Numbers.{Width, bits};
 ghost use Rattle.wasmi_lanes.specs.Vector.{lane, from_lanes, unary_of_lanes, binary_of_lanes, comparison_of_lanes, splat_of, with_lane};

@@ -1,5 +1,4 @@
 //! Work on whole vectors lane by lane: each gives the vector of whatever row its closure computes.
-
 ghost use Rattle.std.specs.Prelude.{◌≡◌, ℕ, ◌<◌};
 ghost use Rattle.wasmi_lanes.specs.Vector.{lane, unary_of_lanes, binary_of_lanes, splat_of, ComputesLane, ComputesLaneOfTwo};
 

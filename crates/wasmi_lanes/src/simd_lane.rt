@@ -1,6 +1,5 @@
 //! The lanes of a vector as a vector of `std::simd`, its bytes and its words too, and one of the
 //! lanes at an index that is known only when the program runs.
-
 ghost use Rattle.std.specs.Prelude.{◌≡◌, ℕ, ◌+◌, ◌-◌, ◌/◌, ◌%◌, ◌^◌, ◌<◌, [], ◌∷◌, nat_lt, slice_index, slice_index_or, if◌then◌else◌};
 ghost use Rattle.wasmi_types.specs.Numbers.{bits, w8};
 ghost use Rattle.wasmi_lanes.specs.Vector.{lane, lane_count};

@@ -4,7 +4,6 @@
 //! `tops` has the highest bit of each lane, and no other; the widths may be unequal. No carry or
 //! borrow leaves a lane: at each lane's highest bit the operands are made to leave room. A sum or a
 //! difference needs no top at the end of the word, where a carry or borrow is dropped.
-
 ghost use Rattle.std.specs.Prelude.{◌≡◌, ℕ, ◌+◌, ◌-◌, ◌%◌, ◌^◌, ◌==◌, if◌then◌else◌, bit_and, refl};
 ghost use Rattle.wasmi_lanes.specs.Words.{field, IsLane, IsLastLane, IsWordLane};
 

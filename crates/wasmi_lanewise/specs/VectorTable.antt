@@ -2,9 +2,8 @@
 -- what each gives, over whole numbers. A vector is a number below 2 ^ 128, w is the width of a lane, and each lane's
 -- number is read as it is (`unsigned`) or as a signed number (`signed w`). A lane is computed without bounds, then
 -- wrapped or clamped.
-use Rattle.std.specs.Prelude.{ℕ, ◌+◌, ◌-◌, ◌*◌, ◌/◌, ◌%◌, ◌^◌, min, max, nat_eq, nat_lt, nat_le, not, ℤ, pos, ◌+ℤ◌, ◌-ℤ◌, ◌*ℤ◌, unsigned_abs, bit_and, bit_or, bit_xor, count_ones, List, slice_index, if◌then◌else◌}
+use Rattle.std.specs.Prelude.{ℕ, ◌+◌, ◌-◌, ◌*◌, ◌/◌, ◌%◌, ◌^◌, min, max, nat_eq, nat_lt, nat_le, not, ℤ, pos, ◌+ℤ◌, ◌-ℤ◌, ◌*ℤ◌, unsigned_abs, bit_and, bit_or, bit_xor, count_ones, List, slice_index, if◌then◌else◌, int_lt, int_le}
 use Rattle.std.specs.Int.{int_min, int_max, int_shr}
-use Rattle.std.specs.Int.RustNames.{int_lt, int_le}
 use Rattle.wasmi_types.specs.Numbers.{Width, w8, w16, bits, signed, wrap, clamp_signed, clamp_unsigned}
 use Rattle.wasmi_lanes.specs.Vector.{lane, unsigned, from_lanes, unary_of_lanes, binary_of_lanes, comparison_of_lanes, splat_of, with_lane}
 

@@ -1,5 +1,4 @@
 //! Numbers clamped to the unsigned range of a lane of half their width.
-
 ghost use Rattle.std.specs.Prelude.{◌≡◌};
 ghost use Rattle.wasmi_types.specs.Numbers.{w8, w16, clamp_unsigned};
 ghost use Rattle.std.specs.Int.{cast_unsigned};

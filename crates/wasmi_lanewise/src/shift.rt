@@ -2,7 +2,6 @@
 //!
 //! The two words of the vector are shifted together, and the bits are masked that would leave their
 //! lane. The masks, the low bits of each lane, come from a table for each width.
-
 ghost use Rattle.std.specs.Prelude.{◌≡◌, ◌-◌, ◌^◌, ◌<◌, replicate};
 ghost use Rattle.wasmi_types.specs.Numbers.{bits};
 ghost use Rattle.wasmi_lanes.specs.Words.{in_each_lane};

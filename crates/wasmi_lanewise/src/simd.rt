@@ -5,7 +5,6 @@
 //! instructions; what each gives stands in `specs/VectorTable.antt`. Upstream: `wasmi_core::simd`.
 //! Private functions here are steps of the instructions of one width; what is generic in the lane
 //! type is in `order` and `words`.
-
 ghost use Rattle.std.specs.Prelude.{◌≡◌, ℕ, ◌+◌, ◌-◌, ◌*◌, ◌/◌, ◌%◌, ◌^◌, ◌<◌, ◌==◌, nat_lt, slice_index, if◌then◌else◌};
 ghost use Rattle.wasmi_types.specs.Numbers.{w8, w16, w32, w64, signed};
 ghost use Rattle.std.specs.Int.{cast_unsigned};

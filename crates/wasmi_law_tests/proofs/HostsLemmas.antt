@@ -6,7 +6,7 @@ use Rattle.wasmi_machine.specs.declared.calls.Call.{Call}
 use Rattle.wasmi_budget.specs.Pool.{PoolValue, machine_of}
 use Rattle.wasmi_c.specs.Machine.CallStructs.{call_of}
 use Rattle.wasmi_c.specs.Machine.Caps.{MachineValue}
-use Rattle.wasmi_c.specs.Machine.Calls.{ActsOnHeld, ListsAreRuns, RepliesInStruct, RepliesInTurn, RepliesToList, RepliesToStruct}
+use Rattle.wasmi_c.specs.Machine.Calls.{ActsOnHeld, ListsAreRuns, RepliesInStruct, RepliesInTurn, RepliesToStruct}
 use Rattle.wasmi_c.specs.Machine.Replies.{only}
 use Rattle.wasmi_c.specs.Pool.{TenantReplies, TenantRepliesToStruct}
 use Rattle.wasmi_c.specs.declared.status.TheConstants.{DONE, NO_MACHINE, NO_POOL, NOT_HELD}
@@ -38,8 +38,8 @@ placed numbers held held' reply machine call step there is =
 
 -- the calls of a list that is made are one run
 pub list_runs : ListsAreRuns → (numbers : List CallStruct) (known : List Call) (old new : List ReplyStruct) (status : ℕ)
-    (machine machine' : MachineValue) → RepliesToList numbers old machine (status, new) machine' → status ≡ DONE
-    → map call_of numbers ≡ map Some known → RunsList known machine new machine'
+    (machine machine' : MachineValue) → RepliesInTurn RepliesToStruct numbers old machine (status, new) machine'
+    → status ≡ DONE → map call_of numbers ≡ map Some known → RunsList known machine new machine'
 unfolding RepliesInTurn
 list_runs lists numbers known old new status machine machine' (inl (differ, left, same)) done are =
     absurd (omega (arith, ap (λ (x : ℕ × List ReplyStruct). x.0) left, done))

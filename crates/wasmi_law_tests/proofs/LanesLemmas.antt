@@ -1,5 +1,5 @@
 -- Numbers that are read as themselves, words divided into lanes of unequal widths, and a byte made of tests.
-use Rattle.std.proofs.Common.{[], ◌≡◌, ℕ, ℤ, ◌<◌, ◌≤◌, ◌^◌, Bool, true, false, if◌then◌else◌, refl, sym, ap, ap₂, ◌∙◌, arith, inl, inr, lit<, lit≤, List, ◌∷◌, ◌-◌, map}
+use Rattle.std.proofs.Common.{[], ◌≡◌, ℕ, ℤ, ◌<◌, ◌^◌, Bool, true, false, if◌then◌else◌, refl, sym, ap, ap₂, ◌∙◌, arith, inl, inr, lit<, lit≤, List, ◌∷◌, map}
 use Rattle.wasmi_law_tests.proofs.Common.{All-head, All-tail, ◌↔◌, FitsSigned, IsTrue, All}
 use Rattle.std.proofs.lemmas.Nat.Bits.{bit_at_ones, same_from_bits_below}
 use Rattle.wasmi_types.specs.Numbers.{Width, signed, wrap}

@@ -1,5 +1,5 @@
 -- An exchange with a recorder, a limiter of one's own, leaves its trace.
-use Rattle.std.proofs.Common.{[], ◌∙◌, ℕ, ◌+◌, Some, ap, inl, inr, Ok, Err, List, None, true, false, ◌∷◌, ◌++◌}
+use Rattle.std.proofs.Common.{[], ◌∙◌, ℕ, Some, ap, inl, inr, Ok, Err, List, None, true, false, ◌∷◌, ◌++◌}
 use Rattle.wasmi_law_tests.proofs.Common.{append_assoc, optional_rules, Question, kind_of, same_Some}
 use Rattle.wasmi_meter.specs.declared.limiter.Kind.{Kind}
 use Rattle.wasmi_law_tests.specs.Limiters.{event_of, recorder_rules, OneGrows, LeavesTrace}

@@ -1,11 +1,10 @@
 -- Calls for which enough was reserved: results of runs into memory that is kept for the replies, runs of a tenant whose
 -- replies are those of the machine alone, and a table that is reserved up to its maximum.
-use Rattle.std.proofs.Common.{Bool, Err, IsOk, List, Ok, OnOk, Result, Some, [], ap, refl, sym, ℕ, ◌++◌, ◌∙◌, ◌∷◌, ◌≡◌, ◌≢◌, ⊎_elim, arith, if◌then◌else◌, slice_get}
-use Rattle.wasmi_law_tests.proofs.Common.{append-nil, same_Some, max, nat_eq, TableValue, optional_rules, Reply, Done, NoRoom, NoSuch, AcceptsNotices, IsDeterministic, RepliesAreOne, State, live_at, IsReservedFor, IsReservedTable, ReservedRunsSucceed, RunsAlone}
+use Rattle.std.proofs.Common.{Bool, Err, IsOk, List, Ok, Result, Some, [], ap, refl, sym, ℕ, ◌++◌, ◌∙◌, ◌∷◌, ◌≡◌, ◌≢◌, ⊎_elim, arith, if◌then◌else◌, slice_get, OnOk}
+use Rattle.wasmi_law_tests.proofs.Common.{append-nil, same_Some, max, nat_eq, TableValue, optional_rules, Reply, Done, NoRoom, NoSuch, AcceptsNotices, IsDeterministic, RepliesAreOne, State, live_at, IsReservedFor, IsReservedTable, ReservedRunsSucceed, RunsAlone, MatchOption}
 use Rattle.std.proofs.lemmas.Bool.{eq-eqb, ne_eqb}
 use Rattle.wasmi_machine.specs.declared.{calls.Call.Call, slots.Slot.Slot}
 use Rattle.wasmi_machine.specs.declared.slots.Slot.TheVariants.{Live}
-use Rattle.wasmi_machine.specs.Effects.{OnLive}
 use Rattle.wasmi_machine.specs.TableEffects.{ReservesElementsAt}
 use Rattle.wasmi_machine.proofs.EffectLemmas.{both_live, on_live}
 use Rattle.wasmi_machine.proofs.SlotsLemmas.{live_slot, set_same}
@@ -14,16 +13,10 @@ use Rattle.wasmi_budget.specs.declared.error.RunIntoError.{RunIntoError}
 use Rattle.wasmi_budget.specs.declared.error.RunIntoError.TheVariants.{NoTenant, TooManyCalls}
 use Rattle.wasmi_law_tests.proofs.RunsLemmas.{RunsWithMemory, pools_same}
 
-module _ {E : Type 0} where
-  -- a result that is accepted and has no value
-  pub accepted : (result : Result (Unit {0}) E) → IsOk result → result ≡ Ok tt
-  accepted (Ok done) is = refl
-  accepted (Err error) is = absurd cc
-
-  -- a fact of a result that is accepted
-  pub accepted_fact : {Fact : Type 0} (result : Result (Unit {0}) E) → IsOk result → OnOk result Fact → Fact
-  accepted_fact (Ok done) is fact = fact
-  accepted_fact (Err error) is fact = absurd cc
+-- a result that is accepted and has no value
+pub accepted : {E : Type 0} (result : Result (Unit {0}) E) → IsOk result → result ≡ Ok tt
+accepted (Ok done) is = refl
+accepted (Err error) is = absurd cc
 
 -- a run of a tenant that is there, for whose replies there is memory, is accepted
 pub accepted_there : (result : Result (Unit {0}) RunIntoError) → result ≢ Err NoTenant → result ≢ Err TooManyCalls
@@ -65,7 +58,7 @@ as_alone one once accepts suffices pool pool' alone alone' index calls replies r
 
 -- a table for whose elements up to its maximum memory was reserved is reserved
 pub reserved_table : (k n : ℕ) (slots : List (Slot TableValue)) (reply : Reply) (slots' : List (Slot TableValue))
-    → OnLive (live_at slots k) (Unit {0}) (λ x. x.ty.maximum ≡ Some n) → ReservesElementsAt k n slots reply slots'
+    → MatchOption (live_at slots k) (Unit {0}) (λ x. x.ty.maximum ≡ Some n) → ReservesElementsAt k n slots reply slots'
     → reply ≡ Done → IsReservedTable slots' k
 reserved_table k n slots reply slots' most reserves done = on_live (live_at slots k) _ _
     (both_live (live_at slots k) _ _ _ _ most reserves)

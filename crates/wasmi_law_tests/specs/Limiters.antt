@@ -1,8 +1,7 @@
 -- The rules of a recorder, a limiter that keeps what it permitted and each failure in its trace, and how the trace and
 -- the sizes of a machine have grown by one call.
-use Rattle.std.specs.Prelude.{◌≡◌, ℕ, Ok, Err, length, ◌<◌, ◌⊎◌, ◌++◌, true, false, Some, List, [], ◌∷◌, slice_get, slice_set}
+use Rattle.std.specs.Prelude.{◌≡◌, ℕ, Ok, Err, length, ◌<◌, ◌⊎◌, ◌++◌, true, false, Some, List, [], ◌∷◌, slice_get, slice_set, vec_capacity}
 use Rattle.wasmi_meter.specs.declared.limiter.Kind.{Kind}
-use Rattle.std.specs.Vec.{vec_capacity}
 use Rattle.wasmi_meter.specs.Limiter.{Question, Answer, kind_of, Rules}
 use Rattle.wasmi_machine.specs.Exchange.{NothingGrows}
 use Rattle.wasmi_law_tests.specs.declared.{recorder.Event.Event, recorder.Recorder.Recorder}

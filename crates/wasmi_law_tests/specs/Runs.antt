@@ -1,5 +1,6 @@
--- What a caller says of a run of a machine or of a tenant of a pool, also by a handle: its bill, its refused turns, its
--- growths in lent regions, its exchange with a limiter, valid states, caps, and other runs of the same calls.
+-- What a caller says of a run of a machine or of a tenant of a pool, also by a handle: its bill, its refused turns,
+-- calls that fit the regions of any machine and growths in them, its exchange with a limiter, valid states, caps, and
+-- other runs of the same calls.
 use Rattle.std.specs.Prelude.{◌≡◌, ◌⊎◌, ◌<◌, ◌≤◌, ◌+◌, ◌*◌, ℕ, true, Option, Some, List, [], ◌∷◌, ◌++◌, length, map, slice_set, All, None}
 use Rattle.wasmi_meter.specs.Attempt.{optional_due, covers}
 use Rattle.wasmi_meter.specs.Limiter.{Rules, optional_rules}
@@ -10,16 +11,14 @@ use Rattle.wasmi_store.specs.Memory.{MemoryValue, pages_of, growth_of, MemoryTyp
 use Rattle.wasmi_machine.specs.declared.{calls.Call.Call, calls.Reply.Reply}
 use Rattle.wasmi_machine.specs.declared.calls.Call.TheVariants.{GrowMemory}
 use Rattle.wasmi_machine.specs.declared.calls.Reply.TheVariants.{Number}
-use Rattle.wasmi_machine.specs.State.{World, Turn, world, State, live_at, IsValid}
-use Rattle.wasmi_machine.specs.Exchange.{Exchanges}
+use Rattle.wasmi_machine.specs.State.{World, Turn, world, State, live_at}
 use Rattle.wasmi_machine.specs.Steps.{Step, Sequence, Run, AreTurns, IsRunOf}
 use Rattle.wasmi_machine.specs.declared.slots.Slot.TheVariants.{Live}
 use Rattle.wasmi_machine.specs.Account.{opened, account_after, Balances, IsBounded, IsSpent}
 use Rattle.wasmi_machine.specs.Determinism.{IsNotOutOfMemory}
-use Rattle.wasmi_machine.specs.Laws.{IsRefusal, Keeps, KeepsMeter}
+use Rattle.wasmi_machine.specs.Laws.{IsRefusal, KeepsMeter}
 use Rattle.wasmi_machine.specs.LentMemory.{FitsRegions}
-use Rattle.wasmi_meter.specs.declared.{quota.Quota.Quota, quota.Amounts.Amounts}
-use Rattle.wasmi_laws.specs.Runs.{IsRunInTwo, IsWithinCapsOf, world_with_more}
+use Rattle.wasmi_meter.specs.declared.quota.Amounts.{Amounts}
 use Rattle.wasmi_budget.specs.declared.tenant.Tenant.{Tenant}
 use Rattle.wasmi_budget.specs.Pool.{tenant_rules, without_others, PoolValue, IsWithinCaps, machine_of, pool_of, tenant_at}
 use Rattle.wasmi_budget.specs.Laws.{PoolTurn, Ran, PoolRun}
@@ -68,11 +67,6 @@ abbrev pub IsMeterKept : {S : Type 0} → Rules S → Call → World S → Reply
 IsMeterKept rules call w reply w' = (turn : Turn) × AreTurns (call ∷ []) (reply ∷ []) (turn ∷ []) × Step rules w turn w'
     × KeepsMeter rules w turn w'
 
--- every turn that is refused keeps what a refused turn keeps
-abbrev pub KeepsWhereRefused : {S : Type 0} → Rules S → List Call → World S → List Reply → World S → Type 0
-KeepsWhereRefused rules calls w replies w' =
-    RunsByTurns rules (λ v turn v'. IsRefusal turn.reply → Keeps rules v turn v') calls w replies w'
-
 -- no reply of two lists is that memory ran out
 abbrev pub NeitherIsOutOfMemory : List Reply → List Reply → Type 0
 NeitherIsOutOfMemory replies replies' = All IsNotOutOfMemory replies × All IsNotOutOfMemory replies'
@@ -103,10 +97,6 @@ GrowsInRegion rules w turn w' = (k pages : ℕ) (x : MemoryValue) → turn.call 
     → live_at w.state.memories k ≡ Some x → CanGrowInRegion (Some w.state.meter) pages x
     → IsGrownOrDenied rules k pages x w turn.reply w'
 
--- in each turn that grows a memory in a lent region with place for it, it has grown, or the limiter has denied that
-abbrev pub GrowsInRegions : {S : Type 0} → Rules S → List Call → World S → List Reply → World S → Type 0
-GrowsInRegions rules calls w replies w' = RunsByTurns rules (GrowsInRegion rules) calls w replies w'
-
 -- the spare region is there, and no shorter than the minimum of a type
 abbrev pub HasRegionFor : MemoryTypeValue → State → Type 0
 HasRegionFor ty s = (region : List ℕ) × (s.spare ≡ Some region) × (minimum_bytes ty ≤ length region)
@@ -117,29 +107,6 @@ IsSpentBy rules calls w replies w' =
     RunsBy rules (λ turns. (left : ℕ) → w.state.meter.left ≡ Some left
     → (left' : ℕ) × (w'.state.meter.left ≡ Some left')
     × IsSpent w.state.meter.costs.bytes_copied_per_fuel left left' turns) calls w replies w'
-
--- every turn of a run leads to a valid state
-abbrev pub StaysValid : {S : Type 0} → Rules S → List Call → World S → List Reply → World S → Type 0
-StaysValid rules calls w replies w' = RunsByTurns rules (λ v turn v'. IsValid v'.state) calls w replies w'
-
--- in each turn a permission is followed by just the growth that was asked for or one notice, and a denial by neither
-abbrev pub IsExchanged : {S : Type 0} → Rules S → List Call → World S → List Reply → World S → Type 0
-IsExchanged rules calls w replies w' = RunsByTurns rules (Exchanges rules) calls w replies w'
-
--- wherever calls are cut, they are two runs in a row
-abbrev pub IsRunInParts : {S : Type 0} → Rules S → List Call → World S → List Reply → World S → Type 0
-IsRunInParts rules calls w replies w' =
-    (first : List Call) (rest : List Call) → calls ≡ first ++ rest → IsRunInTwo rules first rest w replies w'
-
--- after each turn of a run the machine is within the caps of a quota
-abbrev pub StaysWithin : {S : Type 0} → Rules S → Quota → List Call → World S → List Reply → World S → Type 0
-StaysWithin rules quota calls w replies w' =
-    RunsByTurns rules (λ v turn v'. IsWithinCapsOf quota v'.state) calls w replies w'
-
--- the replies are those of a run of the calls with any more fuel, all of which is left at its end
-abbrev pub RunsWithMore : {S : Type 0} → Rules S → List Call → World S → List Reply → World S → Type 0
-RunsWithMore rules calls w replies w' =
-    (more : ℕ) → IsRunOf rules calls (world_with_more more w) replies (world_with_more more w')
 
 -- whatever calls on a pool follow, its caps are these, and all its machines together are within them
 abbrev pub KeepsCaps : Amounts → PoolValue → Type 0

@@ -62,16 +62,16 @@ pub fn load_stored<L: ResourceLimiter>(
     calls: &[Call],
     load: &Call,
     limiter: &mut L,
-) -> Result<(Reply, Vec<Reply>, Reply), AllocError>
+) -> (Reply, Result<Vec<Reply>, AllocError>, Reply)
     ensures { (it : NumberStore) → store.now ≡ store_call it → load.now ≡ load_call it
-        → All (LeavesAlone (MemoryAt it.memory)) calls.now → IfOk result
-        (λ replies. replies.0 ≡ Done → replies.2 ≡ Value (stored_part it.op it.value)) }
+        → All (LeavesAlone (MemoryAt it.memory)) calls.now → IfOk result.1
+        (λ _. result.0 ≡ Done → result.2 ≡ Value (stored_part it.op it.value)) }
 {
     wasmi_laws::stores_are_read_back::<L>();
     let stored = machine.step_lending(store, limiter);
-    let replies = run_lending(machine, calls, limiter)?;
+    let replies = run_lending(machine, calls, limiter);
     let loaded = machine.step_lending(load, limiter);
-    Ok((stored, replies, loaded))
+    (stored, replies, loaded)
 }
 
 /// Makes two calls. If each acts on what is at indices alone, and neither may change what the other

@@ -8,7 +8,7 @@ use wasmi_machine::{Call, Machine, Reply, laws, run_lending};
 use wasmi_meter::{Kind, LimiterByKind, LimiterError};
 
 /// What a limiter was asked and has permitted, or was told.
-#[derive(Clone, Copy, Debug, PartialEq, Eq)]
+#[derive(Clone, Copy)]
 pub enum Event {
     /// A growth was permitted.
     Permitted {
@@ -21,7 +21,7 @@ pub enum Event {
 }
 
 /// A limiter that permits each growth of which it can keep the trace.
-#[derive(Debug, Drop)]
+#[derive(Drop)]
 pub struct Recorder {
     /// What it permitted and was told of, in order.
     pub events: Vec<Event>,

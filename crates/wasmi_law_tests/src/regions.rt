@@ -1,7 +1,7 @@
 //! Callers that keep memories and tables in regions of their own: a memory as a machine keeps one
 //! at an index, and tables that nothing refuses, on regions that are long enough, without a
 //! limiter.
-ghost use Rattle.std.specs.Prelude.{◌≡◌, ◌≤◌, ℕ, Option, Some, length, None, Ok};
+ghost use Rattle.std.specs.Prelude.{◌≡◌, ◌≤◌, ℕ, Option, Some, length, None, IsOk};
 ghost use Rattle.wasmi_meter.specs.Limiter.{optional_rules, lent_limiter};
 ghost use Rattle.wasmi_store.specs.Memory.{IsSized};
 ghost use Rattle.wasmi_region.specs.Memory.{memory_in};
@@ -16,9 +16,9 @@ ghost use Rattle.wasmi_store.specs.Growth.{metered_value};
 ghost use Rattle.wasmi_store.specs.Table as tables;
 ghost use Rattle.wasmi_store.specs.Table.{MakesTable, GrowsTableRaw};
 ghost use Rattle.wasmi_region.specs.Laws.{CanGrowIn};
-ghost use Rattle.wasmi_region.specs.Table.{table_in, typed_as};
+ghost use Rattle.wasmi_region.specs.Table.{made_in, table_in, typed_as};
 
-use wasmi_meter::{Fuel, MemoryError, Quota, ResourceLimiter, ResourceLimiterRef};
+use wasmi_meter::{Fuel, MemoryError, Quota, ResourceLimiter, ResourceLimiterRef, TableError};
 use wasmi_region::laws::{
     region_tables_are_tables, table_creations_succeed, table_growths_succeed,
 };
@@ -50,23 +50,21 @@ pub fn grow_in_region<L: ResourceLimiter>(
 }
 
 /// Makes a table with one reference in each place at the front of a region that is no shorter than
-/// the minimum, and returns its size. It is made as a table of `wasmi_store`.
-pub fn make_table(ty: TableType, region: &mut [u32], reference: u32) -> usize
+/// the minimum, and returns its size. It isn't refused, and is made as a table of `wasmi_store`.
+pub fn make_table(ty: TableType, region: &mut [u32], reference: u32) -> Result<usize, TableError>
     requires place { ty.minimum ≤ length region.old }
+    ensures there { IsOk result }
     ensures made { MakesTable (optional_rules quota_rules) ty (typed_as ty reference) None
-        (Ok (table_in ty region.new result)) None }
+        (made_in ty region.new result) None }
 {
     table_creations_succeed::<Quota>();
     region_tables_are_tables::<Quota>();
     let mut absent: ResourceLimiterRef<Quota> = ResourceLimiterRef::default();
-    let Ok(size) = table::make(ty, region, reference, &mut absent) else {
-        unreachable!()
-    };
-    size
+    table::make(ty, region, reference, &mut absent)
 }
 
 /// Grows a table for which its type and its region have room, and whose fuel is left, and returns
-/// the old size. It grows as a table of `wasmi_store`.
+/// the old size. It isn't refused, and grows as a table of `wasmi_store`.
 pub fn grow_table(
     ty: TableType,
     size: &mut usize,
@@ -74,19 +72,18 @@ pub fn grow_table(
     delta: u64,
     reference: u32,
     fuel: &mut Fuel,
-) -> u64
+) -> Result<u64, TableError>
     requires sized { tables.IsSized ty size.old }
     requires within { size.old ≤ length region.old }
     requires can { CanGrowIn (length region.old) delta (table_in ty region.old size.old)
         (Some fuel.old) }
+    ensures there { IsOk result }
     ensures grown { GrowsTableRaw (optional_rules quota_rules) delta reference
-        (metered_value (table_in ty region.old size.old) (Some fuel.old) None) (Ok result)
+        (metered_value (table_in ty region.old size.old) (Some fuel.old) None) result
         (metered_value (table_in ty region.new size.new) (Some fuel.new) None) }
 {
     table_growths_succeed::<Quota>();
     region_tables_are_tables::<Quota>();
     let mut absent: ResourceLimiterRef<Quota> = ResourceLimiterRef::default();
-    let grown = table::grow(ty, size, region, delta, reference, fuel, &mut absent);
-    let Ok(old_size) = grown else { unreachable!() };
-    old_size
+    table::grow(ty, size, region, delta, reference, fuel, &mut absent)
 }

@@ -1,20 +1,20 @@
 //! Callers of the laws over turns and runs, of the meter over runs, and of those over pools.
-ghost use Rattle.std.specs.Prelude.{◌≡◌, ◌++◌, ◌≤◌, [], ◌∷◌, ℕ, ◌+◌, Some, IfOk, IfSome, OnSome, All, is_some, slice_get};
+ghost use Rattle.std.specs.Prelude.{◌≡◌, ◌++◌, ◌≤◌, [], ◌∷◌, ℕ, ◌+◌, Some, IfOk, IfSome, OnSome, All, is_some, slice_get, List};
 ghost use Rattle.wasmi_store.specs.Memory.{MemoryTypeValue};
 ghost use Rattle.wasmi_meter.specs.Limiter.{optional_rules};
 ghost use Rattle.wasmi_meter.specs.Meter.{amount_left};
 ghost use Rattle.wasmi_meter.specs.declared.limiter.Kind.{Kind};
 ghost use Rattle.wasmi_meter.specs.Capped.{holdings, IsWithinCaps, quota_rules};
 ghost use Rattle.wasmi_machine.specs.Account.{SetsNoFuel};
-ghost use Rattle.wasmi_machine.specs.Exchange.{Nowhere, place_of};
+ghost use Rattle.wasmi_machine.specs.Exchange.{Exchanges, Nowhere, place_of};
 ghost use Rattle.wasmi_machine.specs.LentMemory.{owned_world, unlent_world};
-ghost use Rattle.wasmi_machine.specs.Laws.{IsRefusal, SameContents, KeepsSpare};
+ghost use Rattle.wasmi_machine.specs.Laws.{IsRefusal, Keeps, SameContents, KeepsSpare};
 ghost use Rattle.wasmi_machine.specs.Determinism.{permitting, TellsNoDenial};
 ghost use Rattle.wasmi_machine.specs.Steps.{IsRunOf};
 ghost use Rattle.wasmi_machine.specs.State.{sizes, total, HoldsTotals, IsValid, IsValidCall, world};
-ghost use Rattle.wasmi_laws.specs.Runs.{HasFuel, IsPlainRefusal, IsWithinCapsOf, NamesNoFuel};
+ghost use Rattle.wasmi_laws.specs.Runs.{HasFuel, IsPlainRefusal, IsRunInTwo, IsWithinCapsOf, NamesNoFuel, world_with_more};
 ghost use Rattle.wasmi_budget.specs.Pool as pools;
-ghost use Rattle.wasmi_law_tests.specs.Runs.{KeepsCaps, RunsAlone, RunsBeside, StaysVacant, IsBilled, IsBoundedBy, IsSpentBy, IsExchanged, KeepsWhereRefused, IsMeterKept, StaysValid, IsRunOfBoth, FitsAnyRegions, NeitherIsOutOfMemory, AreSameTurns, HasRegionFor, GrowsInRegions, IsRunInParts, RunsWithMore, StaysWithin};
+ghost use Rattle.wasmi_law_tests.specs.Runs.{KeepsCaps, RunsAlone, RunsBeside, StaysVacant, IsBilled, IsBoundedBy, IsSpentBy, IsMeterKept, IsRunOfBoth, FitsAnyRegions, NeitherIsOutOfMemory, AreSameTurns, HasRegionFor, GrowsInRegion, RunsByTurns};
 
 use std::alloc::AllocError;
 use wasmi_budget::{Pool, PoolError, Tenant, laws as pool_laws};
@@ -53,7 +53,9 @@ pub fn run_refused<L: ResourceLimiter>(
     limiter: &mut L,
 ) -> Result<Vec<Reply>, AllocError>
     ensures turns { IfOk result
-        (λ replies. KeepsWhereRefused (optional_rules L.rules) calls.now
+        (λ replies. RunsByTurns (optional_rules L.rules)
+        (λ before turn after. IsRefusal turn.reply
+        → Keeps (optional_rules L.rules) before turn after) calls.now
         (world machine.old (Some limiter.old)) replies.items
         (world machine.new (Some limiter.new))) }
     ensures all { IfOk result
@@ -108,10 +110,11 @@ pub fn run_exchanged<L: ResourceLimiter>(
     limiter: &mut L,
 ) -> Result<Vec<Reply>, AllocError>
     ensures exchanged { IfOk result
-        (λ replies. IsExchanged (optional_rules L.rules) calls.now
+        (λ replies. RunsByTurns (optional_rules L.rules) (Exchanges (optional_rules L.rules)) calls.now
         (world machine.old (Some limiter.old)) replies.items
         (world machine.new (Some limiter.new))) }
-    ensures regions { IfOk result (λ replies. GrowsInRegions (optional_rules L.rules) calls.now
+    ensures regions { IfOk result (λ replies. RunsByTurns (optional_rules L.rules)
+        (GrowsInRegion (optional_rules L.rules)) calls.now
         (world machine.old (Some limiter.old)) replies.items
         (world machine.new (Some limiter.new))) }
     ensures permitted { IfOk result
@@ -138,7 +141,8 @@ pub fn run_valid<L: ResourceLimiter>(
     limiter: &mut L,
 ) -> Result<Vec<Reply>, AllocError>
     requires valid { All IsValidCall calls.now }
-    ensures turns { IfOk result (λ replies. StaysValid (optional_rules L.rules) calls.now
+    ensures turns { IfOk result (λ replies. RunsByTurns (optional_rules L.rules)
+        (λ before turn after. IsValid after.state) calls.now
         (world machine.old (Some limiter.old)) replies.items
         (world machine.new (Some limiter.new))) }
     ensures after { IfOk result (λ _. IsValid machine.new) }
@@ -162,13 +166,15 @@ pub fn run_within_quota(
     ensures caps { HoldsTotals (holdings quota.old) machine.old → IsWithinCaps quota.old
         → IsWithinCapsOf quota.old machine.new }
     ensures turns { HoldsTotals (holdings quota.old) machine.old → IsWithinCaps quota.old
-        → IfOk result (λ replies. StaysWithin (optional_rules quota_rules) quota.old calls.now
+        → IfOk result (λ replies. RunsByTurns (optional_rules quota_rules)
+        (λ before turn after. IsWithinCapsOf quota.old after.state) calls.now
         (world machine.old (Some quota.old)) replies.items
         (world machine.new (Some quota.new))) }
     ensures enough { All NamesNoFuel calls.now → IfOk result
-        (λ replies. All HasFuel replies.items → RunsWithMore (optional_rules quota_rules) calls.now
-        (world machine.old (Some quota.old)) replies.items
-        (world machine.new (Some quota.new))) }
+        (λ replies. All HasFuel replies.items → (more : ℕ)
+        → IsRunOf (optional_rules quota_rules) calls.now
+        (world_with_more more (world machine.old (Some quota.old))) replies.items
+        (world_with_more more (world machine.new (Some quota.new)))) }
 {
     laws::totals_are_held::<Quota>();
     laws::quotas_stay_within();
@@ -178,25 +184,30 @@ pub fn run_within_quota(
     run_lending(machine, calls, quota)
 }
 
-/// Makes some calls and then others: it is as if all were made in one run, by the turns of the
-/// first and then those of the others.
+/// Makes some calls and then others. If both are made, it is as if all were made in one run, by the
+/// turns of the first and then those of the others.
 pub fn run_both<L: ResourceLimiter>(
     machine: &mut Machine,
     calls: &[Call],
     more: &[Call],
     limiter: &mut L,
-) -> Result<(Vec<Reply>, Vec<Reply>), AllocError>
-    ensures calls { IfOk result (λ replies. IsRunOf (optional_rules L.rules) (calls.now ++ more.now)
-        (world machine.old (Some limiter.old)) (replies.0.items ++ replies.1.items)
-        (world machine.new (Some limiter.new))) }
-    ensures turns { IfOk result (λ replies. IsRunOfBoth (optional_rules L.rules) calls.now more.now
-        (world machine.old (Some limiter.old)) replies.0.items replies.1.items
-        (world machine.new (Some limiter.new))) }
+) -> (
+    Result<Vec<Reply>, AllocError>,
+    Result<Vec<Reply>, AllocError>,
+)
+    ensures calls { IfOk result.0 (λ first. IfOk result.1
+        (λ second. IsRunOf (optional_rules L.rules) (calls.now ++ more.now)
+        (world machine.old (Some limiter.old)) (first.items ++ second.items)
+        (world machine.new (Some limiter.new)))) }
+    ensures turns { IfOk result.0 (λ first. IfOk result.1
+        (λ second. IsRunOfBoth (optional_rules L.rules) calls.now more.now
+        (world machine.old (Some limiter.old)) first.items second.items
+        (world machine.new (Some limiter.new)))) }
 {
     laws::runs_join::<L>();
-    let first = run_lending(machine, calls, limiter)?;
-    let second = run_lending(machine, more, limiter)?;
-    Ok((first, second))
+    let first = run_lending(machine, calls, limiter);
+    let second = run_lending(machine, more, limiter);
+    (first, second)
 }
 
 /// Makes the same calls on two equal machines under equal quotas. If no reply is that memory ran
@@ -208,27 +219,30 @@ pub fn run_twice(
     calls: &[Call],
     quota: &mut Quota,
     other_quota: &mut Quota,
-) -> Result<(Vec<Reply>, Vec<Reply>), AllocError>
+) -> (
+    Result<Vec<Reply>, AllocError>,
+    Result<Vec<Reply>, AllocError>,
+)
     requires machines { other.old ≡ machine.old }
     requires quotas { other_quota.old ≡ quota.old }
-    ensures same { IfOk result
-        (λ replies. NeitherIsOutOfMemory replies.0.items replies.1.items
-        → (replies.0.items ≡ replies.1.items) × (machine.new ≡ other.new)
-        × (quota.new ≡ other_quota.new)) }
-    ensures turns { IfOk result
-        (λ replies. NeitherIsOutOfMemory replies.0.items replies.1.items
+    ensures same { IfOk result.0 (λ first. IfOk result.1
+        (λ second. NeitherIsOutOfMemory first.items second.items
+        → (first.items ≡ second.items) × (machine.new ≡ other.new)
+        × (quota.new ≡ other_quota.new))) }
+    ensures turns { IfOk result.0 (λ first. IfOk result.1
+        (λ second. NeitherIsOutOfMemory first.items second.items
         → AreSameTurns (optional_rules quota_rules)
         (world machine.old (Some quota.old)) (world machine.new (Some quota.new))
-        (world other.new (Some other_quota.new))) }
+        (world other.new (Some other_quota.new)))) }
 {
     laws::limiters_leave_no_choice();
     laws::limiters_accept_notices();
     laws::replies_are_one::<Quota>();
     laws::replies_tell::<Quota>();
     laws::runs_are_one::<Quota>();
-    let first = run_lending(machine, calls, quota)?;
-    let second = run_lending(other, calls, other_quota)?;
-    Ok((first, second))
+    let first = run_lending(machine, calls, quota);
+    let second = run_lending(other, calls, other_quota);
+    (first, second)
 }
 
 /// Makes calls. If they fit whatever regions there are, the replies are those of a machine whose
@@ -249,7 +263,8 @@ pub fn run_in_regions<L: ResourceLimiter>(
         (λ replies. IsRunOf (optional_rules L.rules) (Call.NewMemory ty ∷ [])
         (unlent_world (world machine.old (Some limiter.old))) replies.items
         (unlent_world (world machine.new (Some limiter.new)))) }
-    ensures parts { IfOk result (λ replies. IsRunInParts (optional_rules L.rules) calls.now
+    ensures parts { IfOk result (λ replies. (first : List Call) (rest : List Call)
+        → calls.now ≡ first ++ rest → IsRunInTwo (optional_rules L.rules) first rest
         (world machine.old (Some limiter.old)) replies.items
         (world machine.new (Some limiter.new))) }
 {
@@ -315,15 +330,15 @@ pub fn run_on_both(
     other: &mut Pool,
     index: usize,
     calls: &[Call],
-) -> Result<(Vec<Reply>, Vec<Reply>), PoolError>
+) -> (Result<Vec<Reply>, PoolError>, Result<Vec<Reply>, PoolError>)
     requires pools { other.old ≡ pool.old }
-    ensures same { IfOk result
-        (λ replies. NeitherIsOutOfMemory replies.0.items replies.1.items
-        → (replies.0.items ≡ replies.1.items) × (pool.new ≡ other.new)) }
+    ensures same { IfOk result.0 (λ first. IfOk result.1
+        (λ second. NeitherIsOutOfMemory first.items second.items
+        → (first.items ≡ second.items) × (pool.new ≡ other.new))) }
 {
     pool_laws::tenants_leave_no_choice();
     laws::replies_are_one::<Tenant>();
-    let first = pool.run(index, calls)?;
-    let second = other.run(index, calls)?;
-    Ok((first, second))
+    let first = pool.run(index, calls);
+    let second = other.run(index, calls);
+    (first, second)
 }

@@ -11,7 +11,7 @@ pub use Rattle.wasmi_machine.proofs.RangeLemmas.{value_kept, source_writes, IsRa
 pub use Rattle.wasmi_machine.proofs.SlotsLemmas.{set_other, live_slot, set_same}
 pub use Rattle.wasmi_machine.proofs.StoreLemmas.{acts_too, asks_too, changes_too, unasked_too, acts, alters, replies, runs_joined}
 pub use Rattle.wasmi_machine.specs.Determinism.{AcceptsNotices, IsOtherFailure, IsNotOutOfMemory}
-pub use Rattle.wasmi_machine.specs.Effects.{ChangesFound, ChangesPart, DropsAt, OnLive, reply_of, ActsAt, AddsEntry, ChangesAt, ChangesItem, Creates, MeteredSlots, WritesRangeAt, AddsItem}
+pub use Rattle.wasmi_machine.specs.Effects.{ChangesFound, ChangesPart, DropsAt, reply_of, ActsAt, AddsEntry, ChangesAt, ChangesItem, Creates, MeteredSlots, WritesRangeAt, AddsItem}
 pub use Rattle.wasmi_machine.specs.MemoryEffects.{ReadsBytes, StoresMemory, WritesMemoryAt, ByteSource, CreatesLent, byte_write_of, spare_after}
 pub use Rattle.wasmi_machine.specs.RegisterEffects.{StoresVectorAt, SetsAt, SetsRegister, vector_at}
 pub use Rattle.wasmi_machine.specs.State.{State, live_at, live_value, with_data_segments, with_globals, with_memories, with_registers, with_segments, with_tables, byte_count, Turn, World, MemoryPart, memory_part, IsRefusal, with_reserved, world, sizes, HoldsTotals, outcome_of}
@@ -28,12 +28,10 @@ pub use Rattle.wasmi_meter.specs.Meter.{Meter, meter_set, amount_left, meter_aft
 pub use Rattle.wasmi_meter.specs.declared.{error.MemoryError.MemoryError, error.TableError.TableError}
 pub use Rattle.wasmi_raw.specs.declared.raw.RawVal.{RawVal}
 pub use Rattle.wasmi_store.proofs.GrowthLemmas.{on_test, on_test_too, grows_too}
-pub use Rattle.wasmi_store.proofs.MemoryLemmas.{memory_growth}
-pub use Rattle.wasmi_store.proofs.TableLemmas.{table_growth}
 pub use Rattle.wasmi_store.specs.Buffer.{Lent, Owned, Room, room_after, LacksMemory}
 pub use Rattle.wasmi_store.specs.Growth.{Grows, Growth, metered, metered_value, Makes}
-pub use Rattle.wasmi_store.specs.Memory.{MemoryValue, GrowsMemoryCharging, MakesMemory, MemoryTypeValue, MemoryWrite, WritesMemory, new_memory, page_bytes, pages_of}
-pub use Rattle.wasmi_store.specs.Table.{size_of, GrowsTableCharging, MakesTable, SetsTable, TableValue, same_type, with_elements, new_table, TableTypeValue, elements_write, is_within_maximum, with_elements_reserved}
+pub use Rattle.wasmi_store.specs.Memory.{MemoryValue, memory_growth, GrowsMemoryCharging, MakesMemory, MemoryTypeValue, MemoryWrite, WritesMemory, new_memory, page_bytes, pages_of}
+pub use Rattle.wasmi_store.specs.Table.{size_of, table_growth, GrowsTableCharging, MakesTable, SetsTable, TableValue, same_type, with_elements, new_table, TableTypeValue, elements_write, is_within_maximum, with_elements_reserved}
 pub use Rattle.wasmi_store.specs.Write.{MeteredWrite, WritesCharging, copied, filled, EndsBy, write_charge, IsRefusedFor, write_due}
 pub use Rattle.wasmi_typed.specs.declared.typed_ref.TypedRawRef.{TypedRawRef}
 pub use Rattle.wasmi_types.specs.Access.{at, overwrite}

@@ -152,7 +152,7 @@ record Moves (changed : Option Location) (Becomes : State → State → Type 0) 
 
 module _ (location : Location) (Effect : List (Content location) → Reply → List (Content location) → Type 0)
     (s : State) (reply : Reply) (s' : State) where
-  -- the part of the location whose change is looked at
+  -- the part of the location, a change of which is shown to be an edit
   abbrev p : Part location
   p = part_at location
 

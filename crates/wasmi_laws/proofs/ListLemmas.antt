@@ -1,7 +1,7 @@
 -- What becomes of each item or slot of a list, as one is set, changed or dropped, or one is added at the end.
 use Rattle.std.proofs.Common.{Err, List, None, Ok, Option, Result, Some, [], ap, arith, inl, inr, length, length-set, refl, subst, suc, zero, ℕ, ◌+◌, ◌++◌, ◌≤◌, ◌∙◌, ◌∷◌, ◌≡◌, ◌⊎◌, ⊎_elim}
 use Rattle.std.proofs.lemmas.Bool.{cases_eq}
-use Rattle.wasmi_laws.proofs.Common.{length-append, slice_get, slice_set, both_live, on_live, value_kept, live_slot, set_other, set_same, ActsAt, AddsEntry, AddsItem, ChangesAt, ChangesItem, Creates, DropsAt, MeteredSlots, OnLive, WritesRangeAt, reply_of, live_at, Reply, Done, Slot, Gone, Live, MeteredValue, with_value, MeteredWrite, WritesCharging}
+use Rattle.wasmi_laws.proofs.Common.{length-append, slice_get, slice_set, both_live, on_live, value_kept, live_slot, set_other, set_same, ActsAt, AddsEntry, AddsItem, ChangesAt, ChangesItem, Creates, DropsAt, MeteredSlots, MatchOption, WritesRangeAt, reply_of, live_at, Reply, Done, Slot, Gone, Live, MeteredValue, with_value, MeteredWrite, WritesCharging}
 
 module _ {X : Type 0} where
   -- an index of a list with one item more has what it had, or it had nothing and has this item
@@ -109,7 +109,7 @@ module _ {X : Type 0} (Becomes : ℕ → Option (Slot X) → Option (Slot X) →
   pub slot_written : {E : Type 0} (refusal : E → Reply) (Keeps : X → X → Type 0) → ((x : X) → Keeps x x) → (k : ℕ)
       → ((x x' : X) → Keeps x x' → Becomes k (Some (Live x)) (Some (Live x')))
       → (write : Option (X → MeteredWrite X E))
-      → OnLive write (Unit {0}) (λ w. (x x' : X) → (w x).written ≡ Some x' → Keeps x x') → (s : MeteredSlots X)
+      → MatchOption write (Unit {0}) (λ w. (x x' : X) → (w x).written ≡ Some x' → Keeps x x') → (s : MeteredSlots X)
       (reply : Reply) (charge : ℕ) (s' : MeteredSlots X) → WritesRangeAt refusal k write s reply charge s'
       → EachAfter 0 Becomes s.value s'.value
   slot_written refusal Keeps same k becomes write keeps s reply charge s' writes =

@@ -2,7 +2,7 @@
 -- it keeps its type and its reserved memory, the lent region that a memory is made in or the elements of a table, where
 -- no effect takes other memory. What a call may not change stays as it is, and what was made stays at its index.
 use Rattle.std.proofs.Common.{Err, List, None, Ok, Option, Result, Some, [], ap, ⊎_elim, arith, inl, inr, length, map, refl, subst, sym, ℕ, ◌*◌, ◌+◌, ◌≤◌, ◌∙◌, ◌∷◌, ◌≡◌, ◌⊎◌}
-use Rattle.wasmi_laws.proofs.Common.{MeteredValue, value_after, Grows, Growth, All-head, All-tail, none-some, same_Some, option_and_then, option_map, slice_get, on_live, on_live_too, source_writes, OnLive, reply_of, ByteSource, byte_write_of, SetsAt, MemoryPart, State, Turn, outcome_of, World, byte_count, live_value, with_data_segments, with_globals, with_memories, with_registers, with_segments, with_tables, BytesStored, BytesWritten, Change, Changed, DataDropped, DataMade, Effect, ElementSet, FuelSet, GlobalMade, GlobalSet, ItemsDropped, LentMemoryMade, MemoryDropped, MemoryGrown, MemoryMade, RangeWritten, RegisterSet, SegmentMade, Step, TableDropped, TableGrown, TableMade, MemoryWritten, TableWritten, HasChange, HasEffect, effect_of, OfReference, OfSegment, OfTable, Source, write_of, Call, SetFuel, Reply, Slot, Gone, Live, Content, DataAt, DropsNot, GlobalAt, HasAt, IndicesLast, IsLater, IsLaterSlot, IsLive, LeavesAlone, LiveUntilDropped, Location, MemoryAt, OthersStay, OthersStayInRuns, RegisterAt, SegmentAt, TableAt, changed_location, content_at, dropped_location, IsLent, IsLentRoom, IsReservedToMaximum, AttemptOutcome, Met, answer_of, Rules, Meter, meter_set, MemoryError, TableError, RawVal, on_test, Lent, Owned, Room, room_after, metered_value, GrowsMemoryCharging, MakesMemory, MemoryTypeValue, MemoryValue, MemoryWrite, WritesMemory, new_memory, page_bytes, copied, filled, GrowsTableCharging, MakesTable, SetsTable, TableValue, same_type, size_of, with_elements, TypedRawRef, overwrite, TrapCode, memory_growth, table_growth}
+use Rattle.wasmi_laws.proofs.Common.{MeteredValue, value_after, Grows, Growth, All-head, All-tail, none-some, same_Some, option_and_then, option_map, slice_get, on_live, on_live_too, source_writes, MatchOption, reply_of, ByteSource, byte_write_of, SetsAt, MemoryPart, State, Turn, outcome_of, World, byte_count, live_value, with_data_segments, with_globals, with_memories, with_registers, with_segments, with_tables, BytesStored, BytesWritten, Change, Changed, DataDropped, DataMade, Effect, ElementSet, FuelSet, GlobalMade, GlobalSet, ItemsDropped, LentMemoryMade, MemoryDropped, MemoryGrown, MemoryMade, RangeWritten, RegisterSet, SegmentMade, Step, TableDropped, TableGrown, TableMade, MemoryWritten, TableWritten, HasChange, HasEffect, effect_of, OfReference, OfSegment, OfTable, Source, write_of, Call, SetFuel, Reply, Slot, Gone, Live, Content, DataAt, DropsNot, GlobalAt, HasAt, IndicesLast, IsLater, IsLaterSlot, IsLive, LeavesAlone, LiveUntilDropped, Location, MemoryAt, OthersStay, OthersStayInRuns, RegisterAt, SegmentAt, TableAt, changed_location, content_at, dropped_location, IsLent, IsLentRoom, IsReservedToMaximum, AttemptOutcome, Met, answer_of, Rules, Meter, meter_set, MemoryError, TableError, RawVal, on_test, Lent, Owned, Room, room_after, metered_value, GrowsMemoryCharging, MakesMemory, MemoryTypeValue, MemoryValue, MemoryWrite, WritesMemory, new_memory, page_bytes, copied, filled, GrowsTableCharging, MakesTable, SetsTable, TableValue, same_type, size_of, with_elements, TypedRawRef, overwrite, TrapCode, memory_growth, table_growth}
 use Rattle.wasmi_laws.proofs.ListLemmas.{EachAfter, entry_added, item_added, item_changed, put, slot_acted, slot_changed, slot_dropped, slot_made, slot_written, unchanged}
 use Rattle.wasmi_store.specs.Memory as memory
 use Rattle.wasmi_store.specs.Segment.{SegmentValue}
@@ -41,7 +41,7 @@ bytes_stay x None x' is = absurd (none-some x' is)
 bytes_stay x (Some bytes) x' is = subst (StaysMemory x) (same_Some (record x { bytes = bytes }) x' is) (memory_stays x)
 
 -- a memory keeps its type and its region in a write over a range of it, whatever its source
-range_stays : (source : ByteSource) (dst len : ℕ) → OnLive (byte_write_of source dst len) (Unit {0})
+range_stays : (source : ByteSource) (dst len : ℕ) → MatchOption (byte_write_of source dst len) (Unit {0})
     (λ w. (x x' : MemoryValue) → (w x).written ≡ Some x' → StaysMemory x x')
 range_stays source dst len = on_live_too (byte_write_of source dst len) _ _ _ _ (λ missing. missing)
     (λ write w x x' is. bytes_stay x (w.written x.bytes) x' (ap (λ (v : MemoryWrite). v.written) (sym (w.is x)) ∙ is))
@@ -74,7 +74,7 @@ elements_stay x (Some elements) x' is =
     subst (StaysTable x) (same_Some (with_elements x elements) x' is) (table_stays x)
 
 -- a table keeps its type and what is reserved in a write over a range of it, whatever its source
-table_range_stays : (source : Source) (dst len : ℕ) → OnLive (write_of source dst len) (Unit {0})
+table_range_stays : (source : Source) (dst len : ℕ) → MatchOption (write_of source dst len) (Unit {0})
     (λ w. (x x' : TableValue) → (w x).written ≡ Some x' → StaysTable x x')
 table_range_stays (OfReference value) dst len = λ x. elements_stay x (filled x.elements dst value.raw len)
 table_range_stays (OfTable (Some source) src) dst len = λ x. elements_stay x (copied x.elements dst source.elements src len)
@@ -196,8 +196,8 @@ count_at location s = length ((part_at location).read s)
 -- what is at an index of a machine has its memory reserved, if there is something that can have it: a memory its lent
 -- region, a table what is reserved up to its maximum
 abbrev pub IsReservedIn : (location : Location) → Option (Content location) → Type 0
-IsReservedIn (MemoryAt k) slot = OnLive (option_and_then live_value slot) (Unit {0}) IsLent
-IsReservedIn (TableAt k) slot = OnLive (option_and_then live_value slot) (Unit {0}) IsReservedToMaximum
+IsReservedIn (MemoryAt k) slot = MatchOption (option_and_then live_value slot) (Unit {0}) IsLent
+IsReservedIn (TableAt k) slot = MatchOption (option_and_then live_value slot) (Unit {0}) IsReservedToMaximum
 IsReservedIn location item = Unit {0}
 
 -- what may become of what is at an index, where a call may change what is at one and drop what is at one

@@ -1,7 +1,7 @@
 -- A run that never ran short of fuel is the same with more fuel: what is due and paid, attempts, growths, writes over a
 -- range, changes of one part, and turns.
 use Rattle.std.proofs.Common.{◌≡◌, ◌∙◌, ◌≤◌, ℕ, Bool, true, false, Option, Some, None, Result, Ok, Err, List, [], ◌∷◌, map, refl, sym, ap, subst, arith}
-use Rattle.wasmi_laws.proofs.Common.{nat_tests, All-head, All-tail, option_map, All, MatchBool, is_none, nat_le, ◌&&◌, if◌then◌else◌, acts_too, asks_too, changes_too, unasked_too, AttemptOutcome, Met, Failed, Follows, IsFirstCause, MayEnd, MeteredValue, Request, answer_of, covers, optional_due, outcome_charge, with_value, Rules, optional_rules, Meter, meter_after, Grows, Growth, metered, metered_value, GrowsMemoryCharging, GrowsTableCharging, same_type, EndsBy, MeteredWrite, WritesCharging, write_charge, Call, SetFuel, GetFuel, Reply, Slot, AcceptsNotices, ActsAt, OnLive, WritesRangeAt, reply_of, Run, BytesRead, BytesWritten, Change, Changed, Effect, FuelSet, MemoryGrown, RangeWritten, Step, TableGrown, MemoryWritten, TableWritten, HasChange, HasEffect, Told, effect_of, State, live_at, Turn, World, byte_write_of, write_of, both_live, on_live_too, on_test_too, grows_too, IsRange, KeepsMemory, KeepsTable, byte_range, source_range, HasFuel, MoreFuelChangesNothing, NamesNoFuel, meter_with_more, world_with_more, memory_growth, table_growth, outcome_of}
+use Rattle.wasmi_laws.proofs.Common.{nat_tests, All-head, All-tail, option_map, All, MatchBool, is_none, nat_le, ◌&&◌, if◌then◌else◌, acts_too, asks_too, changes_too, unasked_too, AttemptOutcome, Met, Failed, Follows, IsFirstCause, MayEnd, MeteredValue, Request, answer_of, covers, optional_due, outcome_charge, with_value, Rules, optional_rules, Meter, meter_after, Grows, Growth, metered, metered_value, GrowsMemoryCharging, GrowsTableCharging, same_type, EndsBy, MeteredWrite, WritesCharging, write_charge, Call, SetFuel, GetFuel, Reply, Slot, AcceptsNotices, ActsAt, MatchOption, WritesRangeAt, reply_of, Run, BytesRead, BytesWritten, Change, Changed, Effect, FuelSet, MemoryGrown, RangeWritten, Step, TableGrown, MemoryWritten, TableWritten, HasChange, HasEffect, Told, effect_of, State, live_at, Turn, World, byte_write_of, write_of, both_live, on_live_too, on_test_too, grows_too, IsRange, KeepsMemory, KeepsTable, byte_range, source_range, HasFuel, MoreFuelChangesNothing, NamesNoFuel, meter_with_more, world_with_more, memory_growth, table_growth, outcome_of}
 use Rattle.wasmi_meter.specs.declared.error.TableError.TheVariants as table_error
 use Rattle.wasmi_meter.specs.declared.error.MemoryError.TheVariants as memory_error
 use Rattle.wasmi_meter.specs.declared.fuel.CustomFuelCosts.{CustomFuelCosts}
@@ -215,7 +215,7 @@ module _ (more : ℕ) where
   -- a write over a range of the value of an index, which may be missing, is one with more fuel
   range_richer : {X E : Type 0} (refusal : E → Reply) (Keeps : X → X → Type 0)
       (price : Option (CustomFuelCosts → ℕ)) (unpaid : ℕ → E) → ((n : ℕ) → HasFuel (refusal (unpaid n)) → ⊥)
-      → (k : ℕ) (part : Option (X → MeteredWrite X E)) → OnLive part (Unit {0}) (IsRange Keeps price unpaid)
+      → (k : ℕ) (part : Option (X → MeteredWrite X E)) → MatchOption part (Unit {0}) (IsRange Keeps price unpaid)
       → (slots : List (Slot X)) (m : Meter) (reply : Reply) (charge : ℕ) (slots' : List (Slot X)) (m' : Meter)
       → HasFuel reply → WritesRangeAt refusal k part (metered slots (Some m)) reply charge (metered slots' (Some m'))
       → WritesRangeAt refusal k part (metered slots (Some (richer m))) reply charge

@@ -74,7 +74,7 @@ module _ {V E : Type 0} (refusal : E → Reply) (e : Request V E) (loud : AllLou
       absurd (first_has (λ c. IsLoud (refusal c)) e loud s.meter e.late refl cause a.may_end.1 plain)
   attempt_unasked rules answer value met s s' charge outcome a plain = absurd (loud.refused plain)
 
--- the reply to a creation, which is a plain refusal where its error is one
+-- the reply to a creation: the index of what was made, or the refusal of its error
 adds_reply : {X A E : Type 0} (entry : X → A) (refusal : E → Reply) (result : Result X E) (list : List A)
     (reply : Reply) (list' : List A) → AddsEntry entry refusal result list reply list'
     → reply ≡ reply_of (λ _. replied.Made (length list)) refusal result
@@ -224,20 +224,9 @@ want_loud failure (Ok _) wants plain = wants tt
 -- a world whose parts are all the same
 same_world : {S : Type 0} (rules : Rules S) (w : World S) (turn : Turn) (w' : World S) → Keeps rules w turn w'
     → w'.state.meter ≡ w.state.meter → w'.state.spare ≡ w.state.spare → w'.limiter ≡ w.limiter → w' ≡ w
-same_world rules w turn w' keeps meter spare limiter = λ i. record {
-  state = record {
-    memories = keeps.contents.memories i;
-    tables = keeps.contents.tables i;
-    segments = keeps.contents.segments i;
-    data_segments = keeps.contents.data_segments i;
-    globals = keeps.contents.globals i;
-    registers = keeps.contents.registers i;
-    meter = meter i;
-    spare = spare i;
-    reserved = keeps.contents.reserved i;
-  };
-  limiter = limiter i;
-}
+same_world rules w turn w' keeps meter spare limiter =
+    ap (λ (s : State). record w' { state = s }) keeps.contents
+    ∙ (λ i. record { state = record w.state { meter = meter i; spare = spare i }; limiter = limiter i })
 
 -- a call that lets nothing grow asks nothing
 no_question : (s : State) (call : Call) → place_of call ≡ Nowhere → question_of s call ≡ None

@@ -1,6 +1,6 @@
 -- What is reserved is enough: no reply to a call that needs no other memory says out of memory, as no cause of its
 -- attempts, writes, reads and changes is lack of memory. A call takes its slot alone, and what is reserved stays so.
-use Rattle.wasmi_laws.proofs.Common.{nat_tests, append-nil, All-cons, All-head, All-nil, All-tail, All-weaker, option_map, option_map_or, All, MatchOption, count_by, if◌then◌else◌, is_some, max, nat_eq, nat_le, slice_get, slice_set, at, overwrite, TrapCode, RefType, RawVal, TypedRawRef, AttemptOutcome, Denied, Failed, MayEnd, Met, MeteredValue, Request, Unasked, answer_of, covers, with_value, Rules, Meter, MemoryError, TableError, on_test, LacksMemory, Lent, Owned, Room, GrowsMemoryCharging, MakesMemory, MemoryTypeValue, MemoryValue, WritesMemory, new_memory, pages_of, GrowsTableCharging, SetsTable, TableValue, elements_write, is_within_maximum, same_type, size_of, with_elements_reserved, EndsBy, IsRefusedFor, MeteredWrite, copied, filled, write_due, both_live, on_live, on_live_too, source_writes, IsNotOutOfMemory, AddsEntry, AddsItem, ChangesFound, Creates, MeteredSlots, OnLive, WritesRangeAt, reply_of, ByteSource, ReadsBytes, byte_write_of, SetsAt, vector_at, State, Turn, World, live_at, with_reserved, with_tables, BytesRead, BytesStored, BytesWritten, Change, Changed, DataDropped, DataMade, Effect, ElementSet, FuelSet, GlobalMade, GlobalSet, HasChange, HasEffect, IsRunOf, ItemsDropped, LacksSlot, LentMemoryMade, MemoryDropped, MemoryGrown, MemoryMade, MemoryWritten, RangeWritten, RegisterSet, Run, SegmentMade, Step, TableDropped, TableGrown, TableMade, TableWritten, Told, effect_of, ReservesElementsAt, OfReference, OfSegment, OfTable, Source, write_of, CreatesSegment, IsSegmentOf, Call, Extract, GetElement, GetFuel, GetGlobal, GetRegister, GrowMemory, GrowTable, Load, NewData, NewGlobal, NewLentMemory, NewMemory, NewSegment, Test, Reply, Slot, Live, DataAt, GlobalAt, Location, MemoryAt, SegmentAt, TableAt, content_at, HasElements, HasElementsAt, HasSlot, HasSlots, SlotKind, Memories, Segments, DataSegments, Globals, made_of, slots_for, takes_slot, IsReservedToMaximum, IsLent, IsLentRoom, IsReservedFor, IsReservedTable, NeedsNoMemory, NeedsOnlySlot, ReservedCallsSucceed, ReservedRunsSucceed, SlotsSuffice, IsInRegion, outcome_of}
+use Rattle.wasmi_laws.proofs.Common.{nat_tests, append-nil, All-cons, All-head, All-nil, All-tail, All-weaker, option_map, option_map_or, All, MatchOption, count_by, if◌then◌else◌, is_some, max, nat_eq, nat_le, slice_get, slice_set, overwrite, TrapCode, RefType, RawVal, TypedRawRef, AttemptOutcome, Denied, Failed, MayEnd, Met, MeteredValue, Request, Unasked, answer_of, covers, with_value, Rules, Meter, MemoryError, TableError, on_test, LacksMemory, Lent, Owned, Room, GrowsMemoryCharging, MakesMemory, MemoryTypeValue, MemoryValue, WritesMemory, new_memory, pages_of, GrowsTableCharging, SetsTable, TableValue, elements_write, is_within_maximum, same_type, size_of, with_elements_reserved, EndsBy, IsRefusedFor, MeteredWrite, copied, filled, write_due, both_live, on_live, on_live_too, source_writes, IsNotOutOfMemory, AddsEntry, AddsItem, ChangesFound, Creates, MeteredSlots, WritesRangeAt, reply_of, ByteSource, ReadsBytes, byte_write_of, SetsAt, vector_at, State, Turn, World, live_at, with_reserved, with_tables, BytesRead, BytesStored, BytesWritten, Change, Changed, DataDropped, DataMade, Effect, ElementSet, FuelSet, GlobalMade, GlobalSet, HasChange, HasEffect, IsRunOf, ItemsDropped, LacksSlot, LentMemoryMade, MemoryDropped, MemoryGrown, MemoryMade, MemoryWritten, RangeWritten, RegisterSet, Run, SegmentMade, Step, TableDropped, TableGrown, TableMade, TableWritten, Told, effect_of, ReservesElementsAt, OfReference, OfSegment, OfTable, Source, write_of, CreatesSegment, IsSegmentOf, Call, Extract, GetElement, GetFuel, GetGlobal, GetRegister, GrowMemory, GrowTable, Load, NewData, NewGlobal, NewLentMemory, NewMemory, NewSegment, Test, Reply, Slot, Live, DataAt, GlobalAt, Location, MemoryAt, SegmentAt, TableAt, content_at, HasElements, HasElementsAt, HasSlot, HasSlots, SlotKind, Memories, Segments, DataSegments, Globals, made_of, slots_for, takes_slot, IsReservedToMaximum, IsLent, IsLentRoom, IsReservedFor, IsReservedTable, NeedsNoMemory, NeedsOnlySlot, ReservedCallsSucceed, ReservedRunsSucceed, SlotsSuffice, IsInRegion, outcome_of}
 use Rattle.std.proofs.Common.{◌++◌, Bool, Err, List, None, Ok, Option, Result, Some, [], ap, arith, cond, drop, false, inl, inr, length, map, refl, subst, sym, take, true, ℕ, ◌+◌, ◌≤◌, ◌∷◌, ◌≡◌, ◌⊎◌, ⊎_elim}
 use Rattle.std.proofs.lemmas.List.Sums.{sum_by-cons}
 use Rattle.wasmi_ops.specs.LoadStoreOps.{loaded_raw}
@@ -88,14 +88,14 @@ table_write_told x typed written outside paid other = record {
 }
 
 -- no cause of a write over a range of a memory is lack of memory, whatever its source
-bytes_told : (source : ByteSource) (dst len : ℕ) → OnLive (byte_write_of source dst len) (Unit {0})
+bytes_told : (source : ByteSource) (dst len : ℕ) → MatchOption (byte_write_of source dst len) (Unit {0})
     (λ w. (x : MemoryValue) → WritesWithoutWant replied.Memory (w x))
 bytes_told source dst len = on_live_too (byte_write_of source dst len) _ _ _ _ (λ missing. missing)
     (λ write w x. rw (w.is x) (record { early = w.told x.ty; outside = tt; unpaid = λ amount. tt }))
     (source_writes source dst len)
 
 -- no cause of a write over a range of a table is lack of memory, whatever its source
-elements_told : (source : Source) (dst len : ℕ) → OnLive (write_of source dst len) (Unit {0})
+elements_told : (source : Source) (dst len : ℕ) → MatchOption (write_of source dst len) (Unit {0})
     (λ w. (x : TableValue) → WritesWithoutWant replied.Table (w x))
 elements_told (OfReference value) dst len = λ x. table_write_told x (same_type x.ty.element value.ty)
     (filled x.elements dst value.raw len) TableError.FillOutOfBounds (Some len) tt
@@ -108,8 +108,8 @@ elements_told source dst len = tt
 
 -- the reply to a write over a range of the value of an index
 range_told : {X E : Type 0} (refusal : E → Reply) (k : ℕ) (write : Option (X → MeteredWrite X E))
-    → OnLive write (Unit {0}) (λ w. (x : X) → WritesWithoutWant refusal (w x)) → (s : MeteredSlots X) (reply : Reply)
-    (charge : ℕ) (s' : MeteredSlots X) → WritesRangeAt refusal k write s reply charge s' → IsNotOutOfMemory reply
+    → MatchOption write (Unit {0}) (λ w. (x : X) → WritesWithoutWant refusal (w x)) → (s : MeteredSlots X)
+    (reply : Reply) (charge : ℕ) (s' : MeteredSlots X) → WritesRangeAt refusal k write s reply charge s' → IsNotOutOfMemory reply
 range_told refusal k None without s reply charge s' writes = rw writes.0 tt
 range_told refusal k (Some w) without s reply charge s' writes = on_live (live_at s.value k) _ _ writes
     (λ missing. rw missing.0 tt) (λ x found h. rw h.3
@@ -312,8 +312,8 @@ EffectHas s (TableGrown k n init) = (n ≡ 0) ⊎ HasElementsAt s.tables k n
 EffectHas s effect = Unit {0}
 
 -- for what is reserved: a fact, or one of a live value, is one or the other of it
-none_or_live : {X P : Type 0} (Fact : X → Type 0) (o : Option X) → P ⊎ OnLive o (Unit {0}) Fact
-    → OnLive o (Unit {0}) (λ x. P ⊎ Fact x)
+none_or_live : {X P : Type 0} (Fact : X → Type 0) (o : Option X) → P ⊎ MatchOption o (Unit {0}) Fact
+    → MatchOption o (Unit {0}) (λ x. P ⊎ Fact x)
 none_or_live Fact None has = tt
 none_or_live Fact (Some x) has = has
 

@@ -29,15 +29,9 @@ use Rattle.wasmi_ops.specs.declared.load_store.LoadOp.TheVariants as load
 use Rattle.wasmi_ops.specs.declared.load_store.StoreOp.TheVariants as store
 use Rattle.wasmi_machine.specs.declared.calls.Call.TheVariants as call
 
--- an index of a machine: of a memory, a table, an element segment, a data segment or a global, by the order of their
--- making, or of a register
+-- an index of a machine: of a memory, a table, a segment of either kind or a global, as they were made, or a register
 pub data Location : Type 0 where
-  MemoryAt : ℕ → Location
-  TableAt : ℕ → Location
-  SegmentAt : ℕ → Location
-  DataAt : ℕ → Location
-  GlobalAt : ℕ → Location
-  RegisterAt : ℕ → Location
+  MemoryAt TableAt SegmentAt DataAt GlobalAt RegisterAt : ℕ → Location
 
 -- what can be at an index: of a memory or a table its slot, live or dropped
 abbrev pub Content : Location → Type 0

@@ -8,7 +8,6 @@ use Rattle.wasmi_meter.specs.Limiter.{Rules}
 use Rattle.wasmi_machine.specs.declared.{calls.Call.Call, calls.Reply.Reply, slots.Slot.Slot, slots.SlotCounts.SlotCounts}
 use Rattle.wasmi_machine.specs.declared.calls.Call.TheVariants.{NewMemory, NewLentMemory, GrowMemory, Read, NewTable, GrowTable, NewSegment, NewData, NewGlobal}
 use Rattle.wasmi_machine.specs.State.{State, live_at, with_reserved, World, Turn}
-use Rattle.wasmi_machine.specs.Effects.{OnLive}
 use Rattle.wasmi_machine.specs.Determinism.{IsNotOutOfMemory}
 use Rattle.wasmi_machine.specs.Steps.{Step, IsRunOf}
 
@@ -23,7 +22,7 @@ IsLent x = IsLentRoom x.room
 
 -- an index names a memory in a lent region, if it names a live one
 abbrev pub IsInRegion : List (Slot MemoryValue) → ℕ → Type 0
-IsInRegion slots k = OnLive (live_at slots k) (Unit {0}) IsLent
+IsInRegion slots k = MatchOption (live_at slots k) (Unit {0}) IsLent
 
 -- memory is reserved for all elements of a table up to its maximum
 abbrev pub IsReservedToMaximum : TableValue → Type 0
@@ -31,7 +30,7 @@ IsReservedToMaximum x = MatchOption x.ty.maximum ⊥ (λ maximum. maximum ≤ x.
 
 -- an index names a table that is reserved up to its maximum, if it names a live one
 abbrev pub IsReservedTable : List (Slot TableValue) → ℕ → Type 0
-IsReservedTable slots k = OnLive (live_at slots k) (Unit {0}) IsReservedToMaximum
+IsReservedTable slots k = MatchOption (live_at slots k) (Unit {0}) IsReservedToMaximum
 
 -- memory is reserved for n more elements of a table, or for all up to its maximum
 abbrev pub HasElements : ℕ → TableValue → Type 0
@@ -39,14 +38,11 @@ HasElements n x = (size_of x + n ≤ x.reserved) ⊎ IsReservedToMaximum x
 
 -- a table of an index, if it is there, has memory for n more elements
 abbrev pub HasElementsAt : List (Slot TableValue) → ℕ → ℕ → Type 0
-HasElementsAt slots k n = OnLive (live_at slots k) (Unit {0}) (HasElements n)
+HasElementsAt slots k n = MatchOption (live_at slots k) (Unit {0}) (HasElements n)
 
 -- a kind of what is made in a slot that can be reserved for it, without memory of its own
 pub data SlotKind : Type 0 where
-  Memories : SlotKind
-  Segments : SlotKind
-  DataSegments : SlotKind
-  Globals : SlotKind
+  Memories Segments DataSegments Globals : SlotKind
 
 -- how many of a kind were made on a machine, each in a slot
 abbrev pub made_of : State → SlotKind → ℕ
@@ -105,8 +101,7 @@ takes_slot kind call = false
 abbrev pub HasSlots : State → List Call → SlotKind → Type 0
 HasSlots s calls kind = made_of s kind + count_by (takes_slot kind) calls ≤ slots_for s.reserved kind
 
--- a machine has reserved what these calls need: each needs only a slot, and of each kind as many slots as they take are
--- reserved and free
+-- a machine has reserved what these calls need: each needs only a slot, and of each kind as many as they take are free
 pub record IsReservedFor (s : State) (calls : List Call) : Type 0 where
   pub needs : All (NeedsOnlySlot s) calls
   pub enough : (kind : SlotKind) → HasSlots s calls kind

@@ -1,6 +1,6 @@
 -- Laws over turns and runs: runs that are cut in two, sizes and totals that never shrink, plain refusals that change
 -- nothing, the caps of a quota, what a run keeps of its meter, and the same run with more fuel.
-use Rattle.std.specs.Prelude.{◌≡◌, ◌≤◌, ◌++◌, ℕ, List, length, take, drop, map, Option, Some, slice_get, All, ◌+◌, is_some}
+use Rattle.std.specs.Prelude.{◌≡◌, ◌≤◌, ◌++◌, ℕ, List, length, take, drop, map, Option, Some, slice_get, All, ◌+◌, is_some, option_map}
 use Rattle.wasmi_meter.specs.declared.{limiter.Kind.Kind, quota.Quota.Quota, error.MemoryError.MemoryError, error.TableError.TableError}
 use Rattle.wasmi_meter.specs.Limiter.{Rules, optional_rules}
 use Rattle.wasmi_meter.specs.Capped.{IsWithinCaps, cap_of, holdings, quota_rules}
@@ -8,7 +8,6 @@ use Rattle.wasmi_machine.specs.declared.{calls.Call.Call, calls.Reply.Reply}
 use Rattle.wasmi_machine.specs.State.{State, World, Turn, world, IsRefusal, sizes, total, HoldsTotals}
 use Rattle.wasmi_machine.specs.Steps.{Step, Sequence, Run, IsRunOf}
 use Rattle.wasmi_machine.specs.Exchange.{Nowhere, place_of}
-use Rattle.std.specs.Option.{option_map}
 use Rattle.wasmi_meter.specs.Meter.{Meter, amount_left}
 use Rattle.wasmi_machine.specs.declared.calls.Call.TheVariants.{SetFuel, GetFuel}
 use Rattle.wasmi_machine.specs.declared.calls.Reply.TheVariants.{Memory, Table}
@@ -28,51 +27,26 @@ pub record IsRunInTwo {S : Type 0} (rules : Rules S) (first rest : List Call) (u
 -- What tools/generate writes begins.
 -- the error of a memory is found before the limiter is asked and before anything is charged
 abbrev pub IsPlainMemoryError : MemoryError → Type 0
-IsPlainMemoryError memory.OutOfSystemMemory = ⊥
-IsPlainMemoryError memory.OutOfBoundsGrowth = ⊥
 IsPlainMemoryError memory.OutOfBoundsAccess = Unit {0}
-IsPlainMemoryError memory.InvalidMemoryType = ⊥
-IsPlainMemoryError memory.InvalidStaticBufferSize = ⊥
-IsPlainMemoryError memory.ResourceLimiterDeniedAllocation = ⊥
-IsPlainMemoryError memory.MinimumSizeOverflow = ⊥
-IsPlainMemoryError memory.MaximumSizeOverflow = ⊥
-IsPlainMemoryError (memory.OutOfFuel required) = ⊥
+IsPlainMemoryError error = ⊥
 
 -- the error of a table is found before the limiter is asked and before anything is charged
 abbrev pub IsPlainTableError : TableError → Type 0
-IsPlainTableError table.OutOfSystemMemory = ⊥
-IsPlainTableError table.MinimumSizeOverflow = ⊥
-IsPlainTableError table.MaximumSizeOverflow = ⊥
-IsPlainTableError table.ResourceLimiterDeniedAllocation = ⊥
-IsPlainTableError table.GrowOutOfBounds = ⊥
 IsPlainTableError table.InitOutOfBounds = Unit {0}
 IsPlainTableError table.FillOutOfBounds = Unit {0}
 IsPlainTableError table.SetOutOfBounds = Unit {0}
 IsPlainTableError table.CopyOutOfBounds = Unit {0}
 IsPlainTableError table.ElementTypeMismatch = Unit {0}
-IsPlainTableError (table.OutOfFuel required) = ⊥
+IsPlainTableError error = ⊥
 
 -- What tools/generate writes ends.
 
 -- The reply is a refusal that is found before the limiter is asked and before anything is charged: a trap, an index
--- that names nothing, an access past the end, another type, metering that is off, or no place for a new slot. Each reply
--- has a line.
+-- that names nothing, an access past the end, another type, metering that is off, or no place for a new slot.
 abbrev pub IsPlainRefusal : Reply → Type 0
-IsPlainRefusal reply.Done = ⊥
-IsPlainRefusal (reply.Made index) = ⊥
-IsPlainRefusal (reply.Value value) = ⊥
-IsPlainRefusal (reply.Number number) = ⊥
-IsPlainRefusal (reply.Bytes bytes) = ⊥
-IsPlainRefusal (reply.Reference value) = ⊥
 IsPlainRefusal (reply.Memory error) = IsPlainMemoryError error
 IsPlainRefusal (reply.Table error) = IsPlainTableError error
-IsPlainRefusal (reply.Fuel error) = Unit {0}
-IsPlainRefusal (reply.Global error) = Unit {0}
-IsPlainRefusal (reply.Segment error) = Unit {0}
-IsPlainRefusal (reply.Trap code) = Unit {0}
-IsPlainRefusal reply.NoSuch = Unit {0}
-IsPlainRefusal reply.NoRegion = Unit {0}
-IsPlainRefusal reply.NoRoom = Unit {0}
+IsPlainRefusal reply = IsRefusal reply
 
 module _ {S : Type 0} (rules : Rules S) where
   -- a run of turns is, at each place, a run of those before it, and a run of the others from where these end

@@ -1,4 +1,5 @@
 -- Names that many proofs of this crate cite, passed on from one place.
+pub use Rattle.std.specs.Prelude.{MatchOption}
 pub use Rattle.std.proofs.lemmas.Bool.{and_parts, leb-true}
 pub use Rattle.std.proofs.lemmas.Bool.Decides.{nat_tests}
 pub use Rattle.std.proofs.lemmas.Grind.{common_steps}
@@ -14,23 +15,21 @@ pub use Rattle.wasmi_meter.specs.Limiter.{Rules, Answer, AskedIf, NoticedIf, IsD
 pub use Rattle.wasmi_meter.specs.Meter.{Meter, amount_left, due, meter_after, meter_set, PaysCharge, copy_cost, cut_product}
 pub use Rattle.wasmi_meter.specs.declared.{error.MemoryError.MemoryError, error.TableError.TableError, fuel.CustomFuelCosts.CustomFuelCosts, limiter.Kind.Kind}
 pub use Rattle.wasmi_meter.specs.declared.limiter.Kind.TheVariants.{Bytes, Elements}
-pub use Rattle.wasmi_store.proofs.GrowthLemmas.{on_test, on_test_too, grows_too, loan_kept}
-pub use Rattle.wasmi_store.proofs.MemoryLemmas.{memory_growth}
-pub use Rattle.wasmi_store.proofs.TableLemmas.{table_growth}
+pub use Rattle.wasmi_store.proofs.GrowthLemmas.{on_both_tests, on_test, on_test_too, grows_too, loan_kept}
 pub use Rattle.wasmi_store.specs.Buffer.{LacksMemory, Lent, Owned, Room, fits_room}
 pub use Rattle.wasmi_store.specs.Growth.{Grows, Growth, metered_value, Makes, metered, IsDenied, WithCharge}
-pub use Rattle.wasmi_store.specs.Memory.{GrowsMemoryCharging, MemoryValue, MakesMemory, new_memory, MemoryTypeValue, minimum_bytes, page_bytes, GrowsMemory, MemoryWrite, WritesMemory, bytes_write, pages_of, in_bounds, IsValidMemory, greatest_pages}
+pub use Rattle.wasmi_store.specs.Memory.{GrowsMemoryCharging, memory_growth, MemoryValue, MakesMemory, new_memory, MemoryTypeValue, minimum_bytes, page_bytes, GrowsMemory, MemoryWrite, WritesMemory, bytes_write, pages_of, in_bounds, IsValidMemory, greatest_pages}
 pub use Rattle.wasmi_store.specs.Segment.{SegmentValue, dropped, IsReading, IsReadingOf}
-pub use Rattle.wasmi_store.specs.Table.{GrowsTableCharging, TableValue, same_type, MakesTable, new_table, size_of, TableTypeValue, is_within_maximum, IsValidTable, element_price, elements_write, with_elements, SetsTable, SetsTableRaw, copy_of}
+pub use Rattle.wasmi_store.specs.Table.{GrowsTableCharging, table_growth, TableValue, same_type, MakesTable, new_table, size_of, TableTypeValue, is_within_maximum, IsValidTable, element_price, elements_write, with_elements, SetsTable, SetsTableRaw, copy_of}
 pub use Rattle.wasmi_typed.specs.declared.typed_ref.TypedRawRef.{TypedRawRef}
 pub use Rattle.wasmi_types.specs.Access.{at, overwrite}
 pub use Rattle.wasmi_types.specs.declared.value.RefType.{RefType}
 pub use Rattle.wasmi_machine.specs.Account.{Account, Balances, ChangesMeter, account_after, charged_by, opened, SetsNoFuel, charges, has_written, charges_for_writing, IsSpent, IsBounded, amount_set, amounts_set, bytes_written, is_accepted, writing_turns}
-pub use Rattle.wasmi_machine.specs.Determinism.{IsNotOutOfMemory, AreNotOutOfMemory, IsDeterministic, IsOtherFailure, never_out_of_memory, RelatesByKind, RepliesKeepKind, RunsKeepKind, RunsOfCallsKeepKind, permitting, TellsNoDenial, AcceptsNotices, StaysAccepting, IsIn}
-pub use Rattle.wasmi_machine.specs.Effects.{ActsAt, reply_of, ActsMetered, ActsMeteredUnasked, Asks, Changes, Creates, OnlyReplies, AddsEntry, AddsItem, ChangesAt, ChangesFound, DropsAt, DropsContents, IfNoRoom, OnLive, IsNoSuch, MeteredSlots, WritesAt, WritesRangeAt, WritesFrom, item_bytes, ChangesPart, reply_or_no_such}
+pub use Rattle.wasmi_machine.specs.Determinism.{IsNotOutOfMemory, AreNotOutOfMemory, IsDeterministic, IsOtherFailure, never_out_of_memory, RelatesByKind, RepliesKeepKind, RunsKeepKind, RunsOfCallsKeepKind, permitting, TellsNoDenial, AcceptsNotices, StaysAccepting}
+pub use Rattle.wasmi_machine.specs.Effects.{ActsAt, reply_of, ActsMetered, ActsMeteredUnasked, Asks, Changes, Creates, OnlyReplies, AddsEntry, AddsItem, ChangesAt, ChangesFound, DropsAt, DropsContents, IfNoRoom, IsNoSuch, MeteredSlots, WritesAt, WritesRangeAt, WritesFrom, item_bytes, ChangesPart, reply_or_no_such}
 pub use Rattle.wasmi_machine.specs.Exchange.{AsksFor, At, Denial, Exchange, Exchanges, GrowsAsAsked, GrowsBy, New, Nothing, NothingGrows, Notice, Nowhere, Passes, Permission, Place, RepliesTo, charge_at, writing_price, failed_charge, failed_reply, growth_charge, growth_due, growth_question, place_of, question_in, question_of, table_growth_question, writing_charge}
 pub use Rattle.wasmi_machine.specs.Laws.{RunsGrowAsPermitted, Keeps, KeepsMeter, KeepsSpare, SameContents}
-pub use Rattle.wasmi_machine.specs.MemoryEffects.{CreatesLent, spare_after, byte_write_of, ByteSource, OfBytes, WritesMemoryAt, bytes_appended, bytes_in, load_reply, ReadsBytes, StoresMemory, OfByte, WritesMemoryFrom, memory_copy_of}
+pub use Rattle.wasmi_machine.specs.MemoryEffects.{CreatesLent, spare_after, byte_write_of, ByteSource, OfBytes, WritesMemoryAt, bytes_appended, bytes_in, load_reply, ReadsBytes, StoresMemory, OfByte, memory_copy_of}
 pub use Rattle.wasmi_machine.specs.RegisterEffects.{StoresVectorAt, lane_loaded, vector_at, vector_loaded, SetsAt}
 pub use Rattle.wasmi_machine.specs.State.{State, live_at, Turn, TurnOutcome, outcome_of, World, MemoryPart, memory_part, slot_count, IsValidSlot, byte_count, sizes, world, HoldsTotals, live_value, IsValid, with_memories, with_tables, with_data_segments, with_globals, with_registers, with_segments, IsValidSegment, IsValidCall}
 pub use Rattle.wasmi_machine.specs.Steps.{Run, Changed, Effect, FuelSet, MemoryGrown, HasRangeWrite, RangeWrite, RangeWritten, Step, TableGrown, HasEffect, effect_of, BytesRead, LentMemoryMade, MemoryMade, TableMade, MemoryWritten, TableWritten, Told, Change, IsRunOf, BytesStored, BytesWritten, LacksSlot, MemoryDropped, RegisterSet, HasChange, RepliesWith, DataDropped, DataMade, ElementSet, GlobalMade, GlobalSet, ItemsDropped, SegmentMade, TableDropped, RepliesWithoutLimiter, SomeCopy, Sequence, is_charged}

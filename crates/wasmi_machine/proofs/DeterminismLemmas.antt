@@ -1,7 +1,7 @@
 -- Where the limiter is deterministic and told of no lack of memory, two attempts, effects, turns or runs of the same
 -- calls are one; and which limiters are deterministic.
-use Rattle.std.proofs.Common.{Bool, List, None, Ok, Option, Result, Some, [], ap, arith, false, inl, inr, map, refl, sym, true, ℕ, ◌∙◌, ◌∷◌, ◌≡◌}
-use Rattle.wasmi_machine.proofs.Common.{All-head, All-tail, none-some, same_Some, option_map, MatchBool, memory_growth, table_growth, IsNotOutOfMemory, AreNotOutOfMemory, IsDeterministic, IsOtherFailure, never_out_of_memory, spare_after, byte_write_of, ActsMetered, ActsMeteredUnasked, Asks, Changes, Creates, OnlyReplies, reply_of, Run, BytesRead, Changed, Effect, FuelSet, LentMemoryMade, MemoryGrown, MemoryMade, RangeWritten, TableGrown, TableMade, MemoryWritten, TableWritten, HasEffect, Told, effect_of, State, live_at, Turn, World, write_of, Reply, Slot, Attempt, Denied, Request, Failed, AttemptOutcome, Follows, IsFirstCause, MayEnd, Met, MeteredValue, Unasked, alone, optional_due, answer_of, covers, outcome_charge, value_after, Capped, capped_rules, capped_quota, quota_rules, Answer, AskedIf, NoticedIf, IsDenial, MemoryFailure, Rules, TableFailure, optional_rules, unlimited_rules, Meter, meter_after, MemoryError, TableError, LacksMemory, Lent, Owned, Room, Grows, Growth, Makes, metered_value, metered, GrowsMemoryCharging, MakesMemory, MemoryValue, new_memory, MemoryTypeValue, GrowsTableCharging, MakesTable, new_table, same_type, TurnOutcome, outcome_of, at}
+use Rattle.std.proofs.Common.{List, None, Ok, Option, Result, Some, [], ap, arith, inl, inr, map, refl, sym, true, ℕ, ◌∙◌, ◌∷◌, ◌≡◌}
+use Rattle.wasmi_machine.proofs.Common.{All-head, All-tail, none-some, same_Some, option_map, on_both_tests, memory_growth, table_growth, IsNotOutOfMemory, AreNotOutOfMemory, IsDeterministic, IsOtherFailure, never_out_of_memory, spare_after, byte_write_of, ActsMetered, ActsMeteredUnasked, Asks, Changes, Creates, OnlyReplies, reply_of, Run, BytesRead, Changed, Effect, FuelSet, LentMemoryMade, MemoryGrown, MemoryMade, RangeWritten, TableGrown, TableMade, MemoryWritten, TableWritten, HasEffect, Told, effect_of, State, live_at, Turn, World, write_of, Reply, Slot, Attempt, Denied, Request, Failed, AttemptOutcome, Follows, IsFirstCause, MayEnd, Met, MeteredValue, Unasked, alone, optional_due, answer_of, covers, outcome_charge, value_after, Capped, capped_rules, capped_quota, quota_rules, Answer, AskedIf, NoticedIf, IsDenial, MemoryFailure, Rules, TableFailure, optional_rules, unlimited_rules, Meter, meter_after, MemoryError, TableError, LacksMemory, Lent, Owned, Room, Grows, Growth, Makes, metered_value, metered, GrowsMemoryCharging, MakesMemory, MemoryValue, new_memory, MemoryTypeValue, GrowsTableCharging, MakesTable, new_table, same_type, TurnOutcome, outcome_of, at}
 use Rattle.wasmi_machine.proofs.MemoryEffectsLemmas.{lacks_owned, read_same}
 use Rattle.wasmi_machine.proofs.EffectLemmas.{Acted, HasOneEnding, HasOneOutcome, acts_same, creates_same, on_both}
 use Rattle.wasmi_machine.proofs.StepsLemmas.{change_facts}
@@ -10,12 +10,6 @@ use Rattle.wasmi_meter.proofs.CappedLemmas.{asked_unique, noticed_unique}
 use Rattle.wasmi_store.specs.Memory as memory
 use Rattle.wasmi_machine.specs.declared.calls.Reply.TheVariants as replied
 use Rattle.wasmi_store.specs.Table as table
-
--- two facts by one test, as of two attempts
-on_both_tests : {C : Type 0} (test : Bool) (Holds Holds' Fails Fails' : Type 0) → MatchBool test Holds Fails
-    → MatchBool test Holds' Fails' → (Holds → Holds' → C) → (Fails → Fails' → C) → C
-on_both_tests true Holds Holds' Fails Fails' h h' holds fails = holds h h'
-on_both_tests false Holds Holds' Fails Fails' h h' holds fails = fails h h'
 
 -- what makes two attempts of a request one: the last cause is told to the limiter as lack of memory
 record Wants {V E : Type 0} (e : Request V E) : Type 0 where

@@ -1,26 +1,27 @@
 -- What holds of an effect on slots, on a list or on a value, whatever they are of: a refusal leaves them, it ends in
 -- one way where there is enough memory, and sizes and validity are kept.
 use Rattle.std.proofs.Common.{Err, List, None, Ok, Option, Result, Some, ap, inl, inr, length, map, refl, subst, sym, ℕ, ◌∙◌, ◌≡◌, ◌⊎◌}
-use Rattle.wasmi_machine.proofs.Common.{All-get_or, All-push, All-set, get_or_from_slice_get, slice_get_within, All, slice_get, slice_set, IsNotOutOfMemory, ActsAt, AddsEntry, ChangesAt, ChangesFound, Creates, DropsAt, IfNoRoom, OnLive, reply_of, live_at, slot_count, IsValidSlot, Change, Reply, Slot, Gone, Live, AttemptOutcome, Met, MeteredValue, answer_of, value_after, with_value, Rules, Grows, Growth, Makes}
+use Rattle.wasmi_machine.proofs.Common.{All-get_or, All-push, All-set, get_or_from_slice_get, slice_get_within, All, slice_get, slice_set, IsNotOutOfMemory, ActsAt, AddsEntry, ChangesAt, ChangesFound, Creates, DropsAt, IfNoRoom, MatchOption, reply_of, live_at, slot_count, IsValidSlot, Change, Reply, Slot, Gone, Live, AttemptOutcome, Met, MeteredValue, answer_of, value_after, with_value, Rules, Grows, Growth, Makes}
 use Rattle.wasmi_machine.proofs.SlotsLemmas.{live_slot, put_back}
 use Rattle.wasmi_machine.proofs.TotalLemmas.{counts_kept}
 use Rattle.wasmi_machine.specs.Laws.{IsRefusal}
 use Rattle.wasmi_machine.specs.declared.calls.Reply.TheVariants as replied
 
 -- a fact of an effect on the live value of an index, by whether the index names one, and which
-pub on_found : {X C : Type 0} (o : Option X) (Missing : Type 0) (Fact : X → Type 0) → OnLive o Missing Fact
+pub on_found : {X C : Type 0} (o : Option X) (Missing : Type 0) (Fact : X → Type 0) → MatchOption o Missing Fact
     → (o ≡ None → Missing → C) → ((x : X) → o ≡ Some x → Fact x → C) → C
 on_found None Missing Fact h missing live = missing refl h
 on_found (Some x) Missing Fact h missing live = live x refl h
 
 -- a fact of an effect on the live value of an index, by whether the index names one
-pub on_live : {X C : Type 0} (o : Option X) (Missing : Type 0) (Fact : X → Type 0) → OnLive o Missing Fact
+pub on_live : {X C : Type 0} (o : Option X) (Missing : Type 0) (Fact : X → Type 0) → MatchOption o Missing Fact
     → (Missing → C) → ((x : X) → o ≡ Some x → Fact x → C) → C
 on_live o Missing Fact h missing live = on_found o Missing Fact h (λ none. missing) live
 
 -- two facts of an effect on one live value, or on none
 pub both_live : {X : Type 0} (o : Option X) (Missing Missing' : Type 0) (Fact Fact' : X → Type 0)
-    → OnLive o Missing Fact → OnLive o Missing' Fact' → OnLive o (Missing × Missing') (λ x. Fact x × Fact' x)
+    → MatchOption o Missing Fact → MatchOption o Missing' Fact'
+    → MatchOption o (Missing × Missing') (λ x. Fact x × Fact' x)
 both_live None Missing Missing' Fact Fact' h h' = (h, h')
 both_live (Some x) Missing Missing' Fact Fact' h h' = (h, h')
 
@@ -66,7 +67,8 @@ acts_back k reply_to Acts back s s' reply charge refused acts = on_live (live_at
 
 -- two facts of an effect on one live value, or on none, taken apart at once
 pub on_both : {X C : Type 0} (o : Option X) (Missing Missing' : Type 0) (Fact Fact' : X → Type 0)
-    → OnLive o Missing Fact → OnLive o Missing' Fact' → (Missing → Missing' → C) → ((x : X) → Fact x → Fact' x → C) → C
+    → MatchOption o Missing Fact → MatchOption o Missing' Fact' → (Missing → Missing' → C)
+    → ((x : X) → Fact x → Fact' x → C) → C
 on_both None Missing Missing' Fact Fact' h h' missing live = missing h h'
 on_both (Some x) Missing Missing' Fact Fact' h h' missing live = live x h h'
 
@@ -253,7 +255,7 @@ module _ {X : Type 0} (Valid : X → Type 0) where
 
 -- a fact of an effect on a live value, or on none, from another one of it
 pub on_live_too : {X : Type 0} (o : Option X) (Missing Missing' : Type 0) (Fact Fact' : X → Type 0)
-    → (Missing → Missing') → ((x : X) → Fact x → Fact' x) → OnLive o Missing Fact → OnLive o Missing' Fact'
+    → (Missing → Missing') → ((x : X) → Fact x → Fact' x) → MatchOption o Missing Fact → MatchOption o Missing' Fact'
 on_live_too None Missing Missing' Fact Fact' missing live h = missing h
 on_live_too (Some x) Missing Missing' Fact Fact' missing live h = live x h
 
@@ -296,7 +298,7 @@ drop_facts count Valid k slots = record {
 -- items are put into a value, or they are refused with this error, and the value is the same
 abbrev pub PutsOr : {X E : Type 0} → Option (List ℕ) → (List ℕ → X) → E → X → Result (Unit {0}) E → X → Type 0
 PutsOr written put error x result x' =
-    OnLive written ((result ≡ Err error) × (x' ≡ x)) (λ items. (result ≡ Ok tt) × (x' ≡ put items))
+    MatchOption written ((result ≡ Err error) × (x' ≡ x)) (λ items. (result ≡ Ok tt) × (x' ≡ put items))
 
 -- a change by which items are put into a value, as many as it has, or are refused
 module _ {X E : Type 0} (count : X → ℕ) (Valid : X → Type 0) (refusal : E → Reply)

@@ -1,6 +1,6 @@
 -- What holds of memories in lent regions as of memories of their own: creations, growths, writes, effects and runs.
 use Rattle.std.proofs.Common.{Err, List, None, Ok, Option, Result, Some, [], ap, arith, inl, inr, length, map, refl, subst, sym, true, ℕ, ◌*◌, ◌+◌, ◌∙◌, ◌∷◌, ◌≡◌, ◌≤◌, ◌⊎◌}
-use Rattle.wasmi_machine.proofs.Common.{nat_tests, length-map, map-set, map_push, none-some, slice_get-map, option_and_then, option_map, slice_get, slice_set, ByteSource, OfBytes, WritesMemoryAt, byte_write_of, bytes_appended, bytes_in, load_reply, StoresVectorAt, lane_loaded, vector_at, vector_loaded, AddsEntry, ChangesAt, Creates, IfNoRoom, IsNoSuch, MeteredSlots, OnLive, WritesAt, WritesRangeAt, Run, BytesRead, BytesStored, BytesWritten, Change, Changed, Effect, FuelSet, LacksSlot, LentMemoryMade, MemoryDropped, MemoryGrown, MemoryMade, RangeWritten, RegisterSet, Step, TableGrown, MemoryWritten, TableWritten, TableMade, HasChange, HasEffect, Told, effect_of, State, live_at, live_value, byte_count, Turn, World, Call, CopyMemory, Load, LoadLane, NewLentMemory, NewMemory, VectorLoad, Reply, Slot, Gone, Live, AttemptOutcome, Met, MeteredValue, optional_due, answer_of, covers, with_value, Rules, Meter, MemoryError, on_test_too, grows_too, memory_growth, IsDenied, metered, metered_value, LacksMemory, Lent, Owned, Room, fits_room, GrowsMemory, GrowsMemoryCharging, MakesMemory, MemoryValue, MemoryWrite, WritesMemory, bytes_write, new_memory, pages_of, MemoryTypeValue, in_bounds, minimum_bytes, page_bytes, outcome_of}
+use Rattle.wasmi_machine.proofs.Common.{nat_tests, length-map, map-set, map_push, none-some, slice_get-map, option_and_then, option_map, slice_get, slice_set, ByteSource, OfBytes, WritesMemoryAt, byte_write_of, bytes_appended, bytes_in, load_reply, StoresVectorAt, lane_loaded, vector_at, vector_loaded, AddsEntry, ChangesAt, Creates, IfNoRoom, IsNoSuch, MeteredSlots, MatchOption, WritesAt, WritesRangeAt, Run, BytesRead, BytesStored, BytesWritten, Change, Changed, Effect, FuelSet, LacksSlot, LentMemoryMade, MemoryDropped, MemoryGrown, MemoryMade, RangeWritten, RegisterSet, Step, TableGrown, MemoryWritten, TableWritten, TableMade, HasChange, HasEffect, Told, effect_of, State, live_at, live_value, byte_count, Turn, World, Call, CopyMemory, Load, LoadLane, NewLentMemory, NewMemory, VectorLoad, Reply, Slot, Gone, Live, AttemptOutcome, Met, MeteredValue, optional_due, answer_of, covers, with_value, Rules, Meter, MemoryError, on_test_too, grows_too, memory_growth, IsDenied, metered, metered_value, LacksMemory, Lent, Owned, Room, fits_room, GrowsMemory, GrowsMemoryCharging, MakesMemory, MemoryValue, MemoryWrite, WritesMemory, bytes_write, new_memory, pages_of, MemoryTypeValue, in_bounds, minimum_bytes, page_bytes, outcome_of}
 use Rattle.std.specs.Result.{result_map_both}
 use Rattle.wasmi_machine.proofs.EffectLemmas.{both_live, no_room_too, on_live_too}
 use Rattle.wasmi_machine.proofs.MemoryEffectsLemmas.{lacks_owned}
@@ -52,17 +52,17 @@ owned_at slots k = ap (option_and_then live_value) (slice_get-map owned_slot slo
 
 -- a fact of a live memory, or of none, from one of the memory in its room
 owned_fact : (o : Option MemoryValue) (Missing Missing' : Type 0) (Fact Fact' : MemoryValue → Type 0)
-    → OnLive o Missing Fact → (Missing → Missing') → ((x : MemoryValue) → Fact x → Fact' (owned_memory x))
-    → OnLive (option_map owned_memory o) Missing' Fact'
+    → MatchOption o Missing Fact → (Missing → Missing') → ((x : MemoryValue) → Fact x → Fact' (owned_memory x))
+    → MatchOption (option_map owned_memory o) Missing' Fact'
 owned_fact None Missing Missing' Fact Fact' h missing live = missing h
 owned_fact (Some x) Missing Missing' Fact Fact' h missing live = live x h
 
 -- Effects on memories.
 module _ (slots : List (Slot MemoryValue)) (k : ℕ) where
   -- a fact of the live memory of an index, as one of its own
-  on_owned : (Missing Missing' : Type 0) (Fact Fact' : MemoryValue → Type 0) → OnLive (live_at slots k) Missing Fact
-      → (Missing → Missing') → ((x : MemoryValue) → Fact x → Fact' (owned_memory x))
-      → OnLive (live_at (map owned_slot slots) k) Missing' Fact'
+  on_owned : (Missing Missing' : Type 0) (Fact Fact' : MemoryValue → Type 0)
+      → MatchOption (live_at slots k) Missing Fact → (Missing → Missing') → ((x : MemoryValue) → Fact x → Fact' (owned_memory x))
+      → MatchOption (live_at (map owned_slot slots) k) Missing' Fact'
   on_owned Missing Missing' Fact Fact' h missing live =
       rw (owned_at slots k) (owned_fact (live_at slots k) Missing Missing' Fact Fact' h missing live)
 
@@ -195,7 +195,7 @@ creates_owned rules room ty slots l reply slots' l' fits (inr (result, (outcome,
 -- an effect that fits the regions, as its call does
 abbrev EffectFits : State → Effect → Type 0
 EffectFits s (LentMemoryMade ty) = ⊥
-EffectFits s (MemoryGrown k pages) = OnLive (live_at s.memories k) (Unit {0}) (FitsRoom pages)
+EffectFits s (MemoryGrown k pages) = MatchOption (live_at s.memories k) (Unit {0}) (FitsRoom pages)
 EffectFits s effect = Unit {0}
 
 -- an effect fits the regions where its call does

@@ -2,7 +2,7 @@
 -- for. What each source of one writes and costs; copies from one index to another, for which what is at one is taken
 -- out and put back.
 use Rattle.std.proofs.Common.{List, None, Option, Result, Some, ap, inl, inr, refl, replicate, sym, true, false, Bool, ℕ, arith, ◌∙◌, ◌≡◌, ◌≤◌, ◌⊎◌, length, ◌≢◌}
-use Rattle.wasmi_machine.proofs.Common.{nat_tests, none-some, same_Some, set-set, option_and_then, option_map, nat_eq, nat_le, slice_set, if◌then◌else◌, at, overwrite, MemoryError, TableError, CustomFuelCosts, MeteredValue, optional_due, Meter, amount_left, cut_product, meter_after, metered, IsValidMemory, MemoryTypeValue, MemoryValue, MemoryWrite, bytes_write, IsValidTable, TableValue, element_price, elements_write, size_of, with_elements, Reply, Slot, Live, Gone, IsNotOutOfMemory, ActsMeteredUnasked, IsNoSuch, MeteredSlots, OnLive, WritesAt, WritesFrom, WritesRangeAt, item_bytes, reply_of, NothingGrows, writing_charge, IsValid, State, Turn, World, byte_count, live_at, sizes, with_memories, with_tables, live_value, HasRangeWrite, MemoryWritten, RangeWrite, TableWritten, ByteSource, OfByte, OfBytes, WritesMemoryFrom, byte_write_of, bytes_in, memory_copy_of, OfReference, OfSegment, OfTable, Source, write_of, outcome_of}
+use Rattle.wasmi_machine.proofs.Common.{nat_tests, none-some, same_Some, set-set, option_and_then, option_map, nat_eq, nat_le, slice_set, if◌then◌else◌, at, overwrite, MemoryError, TableError, CustomFuelCosts, MeteredValue, optional_due, Meter, amount_left, cut_product, meter_after, metered, IsValidMemory, MemoryTypeValue, MemoryValue, MemoryWrite, bytes_write, IsValidTable, TableValue, element_price, elements_write, size_of, with_elements, Reply, Slot, Live, Gone, IsNotOutOfMemory, ActsMeteredUnasked, IsNoSuch, MeteredSlots, MatchOption, WritesAt, WritesFrom, WritesRangeAt, item_bytes, reply_of, NothingGrows, writing_charge, IsValid, State, Turn, World, byte_count, live_at, sizes, with_memories, with_tables, live_value, HasRangeWrite, MemoryWritten, RangeWrite, TableWritten, ByteSource, OfByte, OfBytes, byte_write_of, bytes_in, memory_copy_of, OfReference, OfSegment, OfTable, Source, write_of, outcome_of}
 use Rattle.wasmi_meter.specs.declared.error.MemoryError.TheVariants as memory_error
 use Rattle.wasmi_meter.specs.declared.error.TableError.TheVariants.{OutOfFuel}
 use Rattle.wasmi_store.specs.Write.{MeteredWrite, WritesCharging, copied, filled, item_price}
@@ -37,7 +37,7 @@ range_from refusal (Some y) k write s reply charge s' writes = writes
 -- what is copied of a memory is what is copied of its bytes
 pub range_of_bytes : (source : Option MemoryValue) (k dst src len : ℕ) (s : MeteredSlots MemoryValue) (reply : Reply)
     (charge : ℕ) (s' : MeteredSlots MemoryValue)
-    → WritesMemoryFrom source k (memory_copy_of dst src len) s reply charge s'
+    → WritesFrom replied.Memory source k (memory_copy_of dst src len) s reply charge s'
     → WritesRangeAt replied.Memory k (byte_write_of (OfBytes (bytes_in source) src) dst len) s reply charge s'
 range_of_bytes None k dst src len s reply charge s' writes = writes
 range_of_bytes (Some y) k dst src len s reply charge s' writes = writes
@@ -229,7 +229,7 @@ module _ {S X E : Type 0} (w : World S) (r : RangeOf w.state X E) (price : Optio
 
   -- a turn that writes over a range is refused, or it is paid for
   range_ends : (k : ℕ) (write : Option (X → MeteredWrite X E))
-      → OnLive write (Unit {0}) (IsRange r.KeepsValue price r.unpaid) → Becomes k write
+      → MatchOption write (Unit {0}) (IsRange r.KeepsValue price r.unpaid) → Becomes k write
       → IsIdleTurn w turn w' ⊎ IsPaidTurn price w turn w'
   range_ends k write is step = on_both write _ _ _ _ is step.effect
       (λ none missing. inl (range_missing k write step missing)) (range_written k write step)
@@ -301,7 +301,7 @@ part_range dst part typed outside paid = record {
 }
 
 -- what a write over a range of a table with what a source has keeps and costs
-pub source_range : (source : Source) (dst len : ℕ) → OnLive (write_of source dst len) (Unit {0})
+pub source_range : (source : Source) (dst len : ℕ) → MatchOption (write_of source dst len) (Unit {0})
     (IsRange KeepsTable (option_map element_price (paid_from source len)) OutOfFuel)
 source_range (OfReference value) dst len = part_range dst (Some (replicate len value.raw)) _ _ (Some len)
 source_range (OfTable None src) dst len = tt
@@ -341,7 +341,7 @@ pub record WritesBytes (len : ℕ) (write : MemoryValue → MemoryWrite) : Type 
 
 -- a write over a range of a memory with what a source has is a write over bytes
 pub source_writes : (source : ByteSource) (dst len : ℕ)
-    → OnLive (byte_write_of source dst len) (Unit {0}) (WritesBytes len)
+    → MatchOption (byte_write_of source dst len) (Unit {0}) (WritesBytes len)
 source_writes (OfByte value) dst len = record {
   early = λ ty. None;
   written = λ bytes. filled bytes dst value len;
@@ -359,7 +359,7 @@ source_writes (OfBytes (Some source) src) dst len = record {
 }
 
 -- what a write over a range of a memory with what a source has keeps and costs
-pub byte_range : (source : ByteSource) (dst len : ℕ) → OnLive (byte_write_of source dst len) (Unit {0})
+pub byte_range : (source : ByteSource) (dst len : ℕ) → MatchOption (byte_write_of source dst len) (Unit {0})
     (IsRange KeepsMemory (Some (item_price 1 len)) memory_error.OutOfFuel)
 byte_range source dst len = on_live_too (byte_write_of source dst len) _ _ _ _ (λ missing. missing)
     (λ write w. record {

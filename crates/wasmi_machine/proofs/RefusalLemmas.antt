@@ -26,7 +26,7 @@ module _ {S : Type 0} (w w' : World S) where
   -- with another meter and spare region, the contents are the same
   but_spare : (m : Meter) (spare : Option (List ℕ)) → {v : World S} → w' ≡ v
       → v.state ≡ record w.state { meter = m; spare = spare } → SameContents w.state w'.state
-  but_spare m spare is same = rw (is, same) assumption
+  but_spare m spare is same = rw (is, same) refl
 
   -- with another meter, the contents and the spare region are the same
   paid : (m : Meter) → {v : World S} → w' ≡ v → v.state ≡ record w.state { meter = m }
@@ -150,14 +150,5 @@ refused_run_keeps_contents rules w [] w' ran refused = (kept w w' ran refl).0
 refused_run_keeps_contents rules w (turn ∷ turns) w' (v, step, ran) refused =
     let first = (refusals_keep_contents rules w turn v step
     (All-head IsRefusal turn.reply (map Turn.reply turns) refused)).contents in
-    let rest = refused_run_keeps_contents rules v turns w' ran
-    (All-tail IsRefusal turn.reply (map Turn.reply turns) refused) in
-    record {
-      memories = rest.memories ∙ first.memories;
-      tables = rest.tables ∙ first.tables;
-      segments = rest.segments ∙ first.segments;
-      data_segments = rest.data_segments ∙ first.data_segments;
-      globals = rest.globals ∙ first.globals;
-      registers = rest.registers ∙ first.registers;
-      reserved = rest.reserved ∙ first.reserved;
-    }
+    refused_run_keeps_contents rules v turns w' ran (All-tail IsRefusal turn.reply (map Turn.reply turns) refused)
+    ∙ ap (λ (s : State). record s { meter = w'.state.meter; spare = w'.state.spare }) first

@@ -218,6 +218,16 @@ module _ {S : Type 0} (rules : Rules S) where
   each_turn Holds law w (turn ∷ turns) w' (v, step, ran) =
       (v, (step, law w turn v step), each_turn Holds law v turns w' ran)
 
+  -- an answered call, with the call and the state before it by other names
+  pub answers_at : {call call' : Call} {m m' : State} (l : S) (reply : Reply) (w : World S) → call ≡ call' → m' ≡ m
+      → RepliesWith rules call' (world m' l) reply w → RepliesWith rules call (world m l) reply w
+  answers_at l reply w same is answers = rw (same, ← is) answers
+
+  -- an answer without the limiter, with the call and the state before it by other names
+  pub unasked_at : {call call' : Call} {m m' : State} (reply : Reply) (s : State) → call ≡ call' → m' ≡ m
+      → RepliesWithoutLimiter rules call' m' reply s → RepliesWithoutLimiter rules call m reply s
+  unasked_at reply s same is answers = rw (same, ← is) answers
+
   -- an answered call, with the limiter before and after it by other names
   pub answers_by : (call : Call) (m m' : State) (reply : Reply) (l k l' k' : S) → l ≡ k → l' ≡ k'
       → RepliesWith rules call (world m l) reply (world m' l') → RepliesWith rules call (world m k) reply (world m' k')

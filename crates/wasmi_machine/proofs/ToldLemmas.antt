@@ -1,7 +1,8 @@
 -- Limiters that accept each notice: which ones do, and that the replies of a run under one show whether it is told of
 -- lack of memory, and are the same in each run if it is deterministic.
+use Rattle.std.specs.Prelude.{IfSome}
 use Rattle.std.proofs.Common.{◌≡◌, ◌∙◌, Option, Some, None, Ok, true, List, map, refl, sym, ap}
-use Rattle.wasmi_machine.proofs.Common.{All, MemoryError, TableError, MemoryFailure, TableFailure, Rules, AskedIf, NoticedIf, unlimited_rules, optional_rules, quota_rules, Request, Failed, Call, Reply, World, Turn, Run, IsRunOf, AcceptsNotices, StaysAccepting, IsIn, IsOtherFailure, IsDeterministic, never_out_of_memory, IsNotOutOfMemory, AreNotOutOfMemory}
+use Rattle.wasmi_machine.proofs.Common.{All, MemoryError, TableError, MemoryFailure, TableFailure, Rules, AskedIf, NoticedIf, unlimited_rules, optional_rules, quota_rules, Request, Failed, Call, Reply, World, Turn, Run, IsRunOf, AcceptsNotices, StaysAccepting, IsOtherFailure, IsDeterministic, never_out_of_memory, IsNotOutOfMemory, AreNotOutOfMemory}
 use Rattle.wasmi_meter.specs.declared.error.MemoryError.TheVariants as memerr
 use Rattle.wasmi_meter.specs.declared.error.TableError.TheVariants as taberr
 use Rattle.wasmi_store.specs.Memory as memory
@@ -95,28 +96,28 @@ pub record SeenRun {S : Type 0} (rules : Rules S) (calls : List Call) (w : World
 
 module _ {L : Type 0} (rules : Rules L) (IsAccepting : L → Type 0) (stays : StaysAccepting rules IsAccepting) where
   -- a limiter that may be absent stays in the states in which the limiter stays
-  optional_stays : StaysAccepting (optional_rules rules) (IsIn IsAccepting)
+  optional_stays : StaysAccepting (optional_rules rules) (λ l. IfSome l IsAccepting)
   optional_stays = record {
     asked = λ l question answer l' within asks. if_there (λ l l'. AskedIf rules l question answer l')
-        (λ l l'. IsIn IsAccepting l → IsIn IsAccepting l')
+        (λ l l'. IfSome l IsAccepting → IfSome l' IsAccepting)
         (λ l l' asks within. stays.asked l question answer l' within asks) (λ permits within. within)
         (λ l. (λ h. h, λ h. h)) l l' asks within;
     noticed = λ l failure notice_answer l' within notices. if_there (λ l l'. NoticedIf rules l failure notice_answer l')
-        (λ l l'. IsIn IsAccepting l → (notice_answer ≡ Ok tt) × IsIn IsAccepting l')
+        (λ l l'. IfSome l IsAccepting → (notice_answer ≡ Ok tt) × IfSome l' IsAccepting)
         (λ l l' notices within. stays.noticed l failure notice_answer l' within notices)
         (λ accepts within. (accepts, within)) (λ l. (λ h. h, λ h. h)) l l' notices within;
   }
 
   -- two runs of the same calls have the same replies, as a host sees them
   pub accepted_replies_are_one : IsDeterministic rules → (calls : List Call) (w : World (Option L))
-      → IsIn IsAccepting w.limiter
+      → IfSome w.limiter IsAccepting
       → (a b : SeenRun (optional_rules rules) calls w) → (a.replies ≡ b.replies) × (a.after ≡ b.after)
   accepted_replies_are_one once calls w within a b =
       let (turns, made, told, ran) = a.ran in
       let (turns', made', told', ran') = b.ran in
       let have = replies_have turns a.replies told a.has in
       let have' = replies_have turns' b.replies told' b.has in
-      let never = told_run (optional_rules rules) (IsIn IsAccepting) optional_stays in
+      let never = told_run (optional_rules rules) (λ l. IfSome l IsAccepting) optional_stays in
       let one =
       determinism.runs_are_one (optional_rules rules) (determinism.optional_unique rules once) w turns turns' a.after
       b.after (made ∙ sym made') have have' (never w turns a.after within have ran)
@@ -124,7 +125,7 @@ module _ {L : Type 0} (rules : Rules L) (IsAccepting : L → Type 0) (stays : St
       (sym told ∙ ap (map Turn.reply) one.0 ∙ told', one.1)
 
 -- any limiter is in a state of which nothing is said
-any_state : {L : Type 0} (l : Option L) → IsIn (λ state. Unit {0}) l
+any_state : {L : Type 0} (l : Option L) → IfSome l (λ state. Unit {0})
 any_state (Some l) = tt
 any_state None = tt
 
@@ -132,7 +133,7 @@ module _ {L : Type 0} (rules : Rules L) (accepts : AcceptsNotices rules) where
   -- a run whose replies have memory, under a limiter that accepts each notice
   pub told_runs : (w : World (Option L)) (turns : List Turn) (w' : World (Option L)) → AreNotOutOfMemory turns
       → Run (optional_rules rules) w turns w' → Run (never_out_of_memory (optional_rules rules)) w turns w'
-  told_runs w turns w' = told_run (optional_rules rules) (IsIn (λ l. Unit {0}))
+  told_runs w turns w' = told_run (optional_rules rules) (λ l. IfSome l (λ state. Unit {0}))
       (optional_stays rules (λ l. Unit {0}) (accepts_always rules accepts)) w turns w' (any_state w.limiter)
 
   -- two runs of the same calls under such a limiter have the same replies

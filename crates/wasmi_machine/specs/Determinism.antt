@@ -1,5 +1,5 @@
 -- Limiters in runs: deterministic ones, ones that accept each notice, permit each question, or are of one kind; and
--- replies and runs that don't say out of memory, and replies that tell no denial.
+-- failures, replies and runs that don't say out of memory, and replies that tell no denial.
 use Rattle.std.specs.Prelude.{◌≡◌, List, Ok, Option, Some, None, true, All, map}
 use Rattle.wasmi_meter.specs.Limiter.{Question, Answer, Failure, MemoryFailure, TableFailure, NoticeAnswer, Rules, optional_rules}
 use Rattle.wasmi_machine.specs.declared.{calls.Reply.Reply, calls.Call.Call}
@@ -35,11 +35,6 @@ pub record StaysAccepting {S : Type 0} (rules : Rules S) (IsAccepting : S → Ty
       → rules.asked l question answer l' → IsAccepting l'
   pub noticed : (l : S) (failure : Failure) (notice_answer : NoticeAnswer) (l' : S) → IsAccepting l
       → rules.noticed l failure notice_answer l' → (notice_answer ≡ Ok tt) × IsAccepting l'
-
--- an optional limiter is in one of these states, if there is one
-abbrev pub IsIn : {S : Type 0} → (S → Type 0) → Option S → Type 0
-IsIn IsAccepting (Some l) = IsAccepting l
-IsIn IsAccepting None = Unit {0}
 
 -- the failure is another one than that memory was refused
 abbrev pub IsOtherFailure : Failure → Type 0

@@ -19,13 +19,9 @@ reply_of answer refusal (Err error) = refusal error
 abbrev pub reply_or_no_such : Option Reply → Reply
 reply_or_no_such reply = unwrap_or reply NoSuch
 
--- a fact of an effect on the live value of an index; where the index names none, the other fact
-abbrev pub OnLive : {X : Type 0} → Option X → Type 0 → (X → Type 0) → Type 0
-OnLive o Missing Fact = MatchOption o Missing Fact
-
 -- the value that an index names has become another, which is put back; without one it is `NoSuch`, and nothing changes
 abbrev pub ChangesFound : {X A : Type 0} → Option X → (X → A) → A → Reply → A → (X → X → Type 0) → Type 0
-ChangesFound found put part reply part' Change = OnLive found ((reply ≡ NoSuch) × (part' ≡ part))
+ChangesFound found put part reply part' Change = MatchOption found ((reply ≡ NoSuch) × (part' ≡ part))
     (λ x. (x' : _) × Change x x' × (part' ≡ put x'))
 
 -- the live value in a slot has become another
@@ -66,7 +62,7 @@ Creates refusal Makes slots l reply slots' l' = ((reply ≡ NoRoom) × (slots' �
 -- the live value of an index is dropped, and its slot keeps how many it had; where the index names none it is `NoSuch`,
 -- and nothing has changed
 abbrev pub DropsAt : {X : Type 0} → (X → ℕ) → ℕ → List (Slot X) → Reply → List (Slot X) → Type 0
-DropsAt count k slots reply slots' = OnLive (live_at slots k) ((reply ≡ NoSuch) × (slots' ≡ slots))
+DropsAt count k slots reply slots' = MatchOption (live_at slots k) ((reply ≡ NoSuch) × (slots' ≡ slots))
     (λ x. (reply ≡ Done) × (slots' ≡ slice_set slots k (Gone (count x))))
 
 -- an index names nothing: there is no charge, and nothing has changed
@@ -76,7 +72,7 @@ IsNoSuch s reply charge s' = (reply ≡ NoSuch) × (charge ≡ 0) × (s' ≡ s)
 -- a call with a charge on the live value of an index, with the reply to each result
 abbrev pub ActsAt : {X R S : Type 0} → ℕ → (R → Reply) → (MeteredValue X S → R → ℕ → MeteredValue X S → Type 0)
     → MeteredValue (List (Slot X)) S → Reply → ℕ → MeteredValue (List (Slot X)) S → Type 0
-ActsAt k reply_to Acts s reply charge s' = OnLive (live_at s.value k) (IsNoSuch s reply charge s')
+ActsAt k reply_to Acts s reply charge s' = MatchOption (live_at s.value k) (IsNoSuch s reply charge s')
     (λ x. (result : _) × (x' : _) × Acts (with_value s x) result charge (with_value s' x')
     × (reply ≡ reply_to result) × (s'.value ≡ slice_set s.value k (Live x')))
 
@@ -94,7 +90,7 @@ WritesAt refusal k write = ActsAt k (reply_of (λ _. Done) refusal) (WritesCharg
 abbrev pub WritesFrom : {X Y E : Type 0} → (E → Reply) → Option Y → ℕ → (Y → X → MeteredWrite X E) → MeteredSlots X
     → Reply → ℕ → MeteredSlots X → Type 0
 WritesFrom refusal source k write s reply charge s' =
-    OnLive source (IsNoSuch s reply charge s') (λ y. WritesAt refusal k (write y) s reply charge s')
+    MatchOption source (IsNoSuch s reply charge s') (λ y. WritesAt refusal k (write y) s reply charge s')
 
 -- a range of the value of an index is written over by such a write, if there is one
 abbrev pub WritesRangeAt : {X E : Type 0} → (E → Reply) → ℕ → Option (X → MeteredWrite X E) → MeteredSlots X → Reply

@@ -1,7 +1,6 @@
 -- Exchanges: what passes between a machine and its limiter in one turn, the question of each call, the replies to it,
 -- the size that grows by it, and what growths and writes over a range are charged.
-use Rattle.std.specs.Prelude.{◌≡◌, ◌≢◌, ◌≤◌, ◌-◌, ◌⊎◌, ◌++◌, ℕ, Option, Some, None, Ok, true, nat_eq, is_none, if◌then◌else◌, List, [], ◌∷◌, slice_get, slice_set}
-use Rattle.std.specs.Option.{option_map, option_and_then}
+use Rattle.std.specs.Prelude.{◌≡◌, ◌≢◌, ◌≤◌, ◌-◌, ◌⊎◌, ◌++◌, ℕ, Option, Some, None, Ok, true, nat_eq, is_none, if◌then◌else◌, List, [], ◌∷◌, slice_get, slice_set, option_map, option_and_then}
 use Rattle.wasmi_meter.specs.declared.{limiter.Kind.Kind, fuel.CustomFuelCosts.CustomFuelCosts}
 use Rattle.wasmi_meter.specs.declared.limiter.Kind.TheVariants.{Bytes, Elements}
 use Rattle.wasmi_meter.specs.declared.error.MemoryError.TheVariants as memory_error
@@ -84,8 +83,7 @@ RepliesTo (Notice question failure notice_answer) reply = reply ≡ failed_reply
 
 -- where a call makes something grow: nowhere, at a new index, or at one that is there
 pub data Place : Type 0 where
-  Nowhere : Place
-  New : Place
+  Nowhere New : Place
   At : ℕ → Place
 
 -- What tools/generate writes begins.

@@ -21,14 +21,8 @@ use Rattle.wasmi_machine.specs.Determinism.{IsDeterministic, AcceptsNotices, IsO
 use Rattle.wasmi_machine.specs.LentMemory.{owned_world, unlent_world, RunInRegions}
 
 -- all but the meter and the spare region is the same
-pub record SameContents (s s' : State) : Type 0 where
-  pub memories : s'.memories ≡ s.memories
-  pub tables : s'.tables ≡ s.tables
-  pub segments : s'.segments ≡ s.segments
-  pub data_segments : s'.data_segments ≡ s.data_segments
-  pub globals : s'.globals ≡ s.globals
-  pub registers : s'.registers ≡ s.registers
-  pub reserved : s'.reserved ≡ s.reserved
+abbrev pub SameContents : State → State → Type 0
+SameContents s s' = s' ≡ record s { meter = s'.meter; spare = s'.spare }
 
 -- the spare region stays, unless a memory was to be made in it: then it is used up if there was room for a slot
 abbrev pub KeepsSpare : Call → Reply → State → State → Type 0

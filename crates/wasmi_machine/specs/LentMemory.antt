@@ -1,6 +1,6 @@
 -- Machines with memories in lent regions, beside the same machines with memories of their own; growths, calls and runs
 -- that fit these regions.
-use Rattle.std.specs.Prelude.{◌≡◌, ◌⊎◌, ◌+◌, ◌*◌, ℕ, true, false, List, map, None}
+use Rattle.std.specs.Prelude.{◌≡◌, ◌⊎◌, ◌+◌, ◌*◌, ℕ, true, false, List, map, None, MatchOption}
 use Rattle.wasmi_meter.specs.Limiter.{Rules}
 use Rattle.wasmi_store.specs.Buffer.{Owned, fits_room}
 use Rattle.wasmi_store.specs.Memory.{page_bytes, in_bounds, MemoryValue, pages_of}
@@ -8,7 +8,6 @@ use Rattle.wasmi_machine.specs.declared.{calls.Call.Call, slots.Slot.Slot}
 use Rattle.wasmi_machine.specs.declared.calls.Call.TheVariants.{NewLentMemory, GrowMemory}
 use Rattle.wasmi_machine.specs.declared.slots.Slot.TheVariants.{Live, Gone}
 use Rattle.wasmi_machine.specs.State.{State, live_at, World, Turn}
-use Rattle.wasmi_machine.specs.Effects.{OnLive}
 use Rattle.wasmi_machine.specs.Steps.{Step, Sequence}
 
 -- a memory that grows into memory of its own, instead of a lent region
@@ -40,7 +39,7 @@ FitsRoom pages x =
 -- a call that makes no memory in the spare region, and grows no memory past the region that it lies in
 abbrev pub FitsRegions : State → Call → Type 0
 FitsRegions s (NewLentMemory ty) = ⊥
-FitsRegions s (GrowMemory k pages) = OnLive (live_at s.memories k) (Unit {0}) (FitsRoom pages)
+FitsRegions s (GrowMemory k pages) = MatchOption (live_at s.memories k) (Unit {0}) (FitsRoom pages)
 FitsRegions s call = Unit {0}
 
 -- turns by such calls one after another, from one world to another

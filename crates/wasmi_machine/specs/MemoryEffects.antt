@@ -17,7 +17,7 @@ use Rattle.wasmi_ops.specs.declared.load_store.LoadOp.{LoadOp}
 use Rattle.wasmi_ops.specs.LoadStoreOps.{loaded_raw, stored_bytes}
 use Rattle.wasmi_ops.specs.LaneOps.{stored_lane}
 use Rattle.wasmi_machine.specs.State.{MemoryPart, live_at}
-use Rattle.wasmi_machine.specs.Effects.{reply_of, OnLive, Creates, ChangesAt, MeteredSlots, WritesAt, WritesFrom}
+use Rattle.wasmi_machine.specs.Effects.{reply_of, Creates, ChangesAt}
 use Rattle.wasmi_machine.specs.declared.memories.Stored.TheVariants as stored
 
 -- how many bytes a growth of a memory by so many pages has appended, by its reply
@@ -45,7 +45,7 @@ ReadsBytes (Some bytes) reply = ((reply ≡ NoRoom) × (0 < length bytes)) ⊎ (
 -- the reply to a read of so many bytes from an offset on, by the memory of an index
 abbrev pub ReadsMemoryAt : ℕ → ℕ → ℕ → List (Slot MemoryValue) → Reply → Type 0
 ReadsMemoryAt k offset len slots reply =
-    OnLive (live_at slots k) (reply ≡ NoSuch) (λ x. ReadsBytes (at x.bytes offset len) reply)
+    MatchOption (live_at slots k) (reply ≡ NoSuch) (λ x. ReadsBytes (at x.bytes offset len) reply)
 
 -- the memory of an index is written over with bytes from an offset on, or the write is refused
 abbrev pub WritesMemoryAt : ℕ → ℕ → List ℕ → List (Slot MemoryValue) → Reply → List (Slot MemoryValue) → Type 0
@@ -76,17 +76,6 @@ byte_write_of (OfBytes source src) dst len = option_map (byte_copy_of dst src le
 -- the bytes of a memory, if it is there
 abbrev pub bytes_in : Option MemoryValue → Option (List ℕ)
 bytes_in memory = option_map (λ x. x.bytes) memory
-
--- a range of the memory of an index is written over, with its charge
-abbrev pub WritesRangeOfMemoryAt : ℕ → (MemoryValue → MemoryWrite) → MeteredSlots MemoryValue → Reply → ℕ
-    → MeteredSlots MemoryValue → Type 0
-WritesRangeOfMemoryAt = WritesAt Memory
-
--- a range of the memory of an index is written over with what a source has, with its charge; without a source the reply
--- is `NoSuch`, and nothing has changed
-abbrev pub WritesMemoryFrom : {Y : Type 0} → Option Y → ℕ → (Y → MemoryValue → MemoryWrite)
-    → MeteredSlots MemoryValue → Reply → ℕ → MeteredSlots MemoryValue → Type 0
-WritesMemoryFrom = WritesFrom Memory
 
 -- what a call copies over a part of a memory is of another one
 abbrev pub memory_copy_of : ℕ → ℕ → ℕ → MemoryValue → MemoryValue → MemoryWrite

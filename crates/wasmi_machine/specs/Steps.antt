@@ -1,9 +1,8 @@
 -- Steps and runs of a machine: the subject and the effect of each call, the vector that it makes, whether it is charged
 -- for what it writes, what each effect changes in a world, the replies to it, also by a copy of a slice, and turns one
 -- after another.
-use Rattle.std.specs.Prelude.{◌≡◌, ◌⊎◌, ◌+◌, ◌<◌, ◌≤◌, ℕ, Bool, true, false, List, Option, Some, None, Result, Ok, Vec, slice_get, [], ◌∷◌, length, map}
+use Rattle.std.specs.Prelude.{◌≡◌, ◌⊎◌, ◌+◌, ◌<◌, ◌≤◌, ℕ, Bool, true, false, List, Option, Some, None, Result, Ok, Vec, slice_get, [], ◌∷◌, length, map, option_map, option_and_then}
 use Rattle.std.specs.Global.{Global}
-use Rattle.std.specs.Option.{option_map, option_and_then}
 use Rattle.wasmi_types.specs.Numbers.{le_bytes}
 use Rattle.wasmi_types.specs.declared.{trap.TrapCode.TrapCode, value.RefType.RefType}
 use Rattle.wasmi_raw.specs.declared.raw.RawVal.{RawVal}
@@ -31,12 +30,7 @@ use Rattle.wasmi_machine.specs.declared.calls.Reply.TheVariants as reply
 
 -- what a call is about
 pub data Subject : Type 0 where
-  TheMeter : Subject
-  Memories : Subject
-  Tables : Subject
-  Values : Subject
-  RegisterFile : Subject
-  VectorAccesses : Subject
+  TheMeter Memories Tables Values RegisterFile VectorAccesses : Subject
 
 -- What tools/generate writes begins.
 -- what each call is about
@@ -94,13 +88,10 @@ pub data Change : Type 0 where
   BytesWritten : ℕ → ℕ → List ℕ → Change
   BytesStored : ℕ → ℕ → Option (List ℕ) → Change
   RegisterSet : ℕ → Option (Result RawVal TrapCode) → Change
-  MemoryDropped : ℕ → Change
-  TableDropped : ℕ → Change
+  MemoryDropped TableDropped ItemsDropped DataDropped : ℕ → Change
   ElementSet : ℕ → ℕ → TypedRawRef → Change
   SegmentMade : RefType → List ℕ → Change
-  ItemsDropped : ℕ → Change
   DataMade : List ℕ → Change
-  DataDropped : ℕ → Change
   GlobalMade : GlobalInstance → Change
   GlobalSet : ℕ → TypedRawVal → Change
 
@@ -116,8 +107,7 @@ pub data Effect : Type 0 where
   BytesRead : ℕ → ℕ → ℕ → Effect
   FuelSet : ℕ → Effect
   Changed : Change → Effect
-  MemoryMade : MemoryTypeValue → Effect
-  LentMemoryMade : MemoryTypeValue → Effect
+  MemoryMade LentMemoryMade : MemoryTypeValue → Effect
   MemoryGrown : ℕ → ℕ → Effect
   TableMade : TableTypeValue → TypedRawRef → Effect
   TableGrown : ℕ → ℕ → TypedRawRef → Effect

@@ -7,7 +7,7 @@ use Rattle.wasmi_store.specs.Segment.{SegmentValue}
 use Rattle.wasmi_store.specs.Table.{TableValue, TableWrite, with_elements_reserved, SetsTable, element_at, filling_of, copy_of, initialization_of}
 use Rattle.wasmi_machine.specs.declared.{calls.Reply.Reply, slots.Slot.Slot}
 use Rattle.wasmi_machine.specs.declared.calls.Reply.TheVariants.{Done, Reference, Table, NoRoom, NoSuch}
-use Rattle.wasmi_machine.specs.Effects.{reply_of, ChangesAt, MeteredSlots, WritesAt, WritesFrom, item_bytes}
+use Rattle.wasmi_machine.specs.Effects.{reply_of, ChangesAt, item_bytes}
 
 -- the element that is asked of a table, if the table is there
 abbrev pub element_reply : ℕ → Option TableValue → Reply
@@ -25,17 +25,6 @@ abbrev pub ReservesElementsAt : ℕ → ℕ → List (Slot TableValue) → Reply
 ReservesElementsAt k n slots reply slots' = ChangesAt k slots reply slots'
     (λ x x'. ((reply ≡ Done) × (x' ≡ with_elements_reserved x n))
     ⊎ ((reply ≡ NoRoom) × (x.reserved < n) × (x' ≡ x)))
-
--- a range of the table of an index is written over, with its charge
-abbrev pub WritesTableAt : ℕ → (TableValue → TableWrite) → MeteredSlots TableValue → Reply → ℕ
-    → MeteredSlots TableValue → Type 0
-WritesTableAt = WritesAt Table
-
--- a range of the table of an index is written over with what a source has, with its charge; without a source the reply
--- is `NoSuch`, and nothing has changed
-abbrev pub WritesTableFrom : {Y : Type 0} → Option Y → ℕ → (Y → TableValue → TableWrite) → MeteredSlots TableValue
-    → Reply → ℕ → MeteredSlots TableValue → Type 0
-WritesTableFrom = WritesFrom Table
 
 -- what a range of a table is written over with: a reference, elements of a table, or items of an element segment, from a
 -- place on, if it is there

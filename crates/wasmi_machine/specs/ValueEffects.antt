@@ -1,5 +1,5 @@
 -- The calls on element segments, data segments, globals and the meter: their replies, and what each does.
-use Rattle.std.specs.Prelude.{◌≡◌, ◌⊎◌, ◌≤◌, ◌<◌, ℕ, Option, Result, Ok, Err, List, [], length, slice_get, if◌then◌else◌, is_some}
+use Rattle.std.specs.Prelude.{◌≡◌, ◌⊎◌, ◌≤◌, ◌<◌, ℕ, Option, Result, Ok, Err, List, [], length, if◌then◌else◌, is_some}
 use Rattle.std.specs.Option.{option_map_or}
 use Rattle.wasmi_types.specs.declared.value.RefType.{RefType}
 use Rattle.wasmi_typed.specs.declared.{typed.TypedRawVal.TypedRawVal, global.GlobalError.GlobalError}
@@ -43,10 +43,6 @@ SetsGlobalAt k value globals reply globals' = ChangesItem k globals reply global
 -- the value that is asked of a global, if it is there
 abbrev pub global_reply : Option GlobalInstance → Reply
 global_reply global = option_map_or (λ x. Value x.value) global NoSuch
-
--- the reply to a call for the value of the global of an index
-abbrev pub GetsGlobalAt : ℕ → List GlobalInstance → Reply → Type 0
-GetsGlobalAt k globals reply = reply ≡ global_reply (slice_get globals k)
 
 -- the fuel that is left is set, where the meter is on
 abbrev pub SetsFuel : ℕ → State → Reply → State → Type 0

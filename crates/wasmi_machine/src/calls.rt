@@ -344,11 +344,9 @@ pub enum Reply {
     Done,
     /// The index of the memory, table, element segment, data segment or global that was made.
     Made(usize),
-    /// The value of a global or a register, or a number that `Load`, `Test` or `Extract` gives, in
-    /// the low word.
+    /// The value of a global or a register, or what `Load`, `Test` or `Extract` gives (low word).
     Value(RawVal),
-    /// The old size, of `GrowMemory` in pages, of `GrowTable` in elements, or the fuel left, of
-    /// `GetFuel`.
+    /// The old size in pages (`GrowMemory`) or elements (`GrowTable`), or the fuel left.
     Number(u64),
     /// The bytes that `Read` asked for.
     Bytes(ByteList),

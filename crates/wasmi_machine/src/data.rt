@@ -6,7 +6,6 @@ use std::alloc::{AllocError, Global};
 use std::marker::Model;
 
 /// A data segment: the bytes that `Call::InitMemory` copies to a memory. Once dropped it has none.
-///
 /// Core specification, data instances.
 #[derive(Debug, Drop)]
 pub struct DataSegment {
@@ -49,9 +48,7 @@ impl DataSegment {
         self.bytes.len()
     }
 
-    /// Drops the bytes, and gives their memory back.
-    ///
-    /// Core specification, data.drop.
+    /// Drops the bytes, and gives their memory back. Core specification, data.drop.
     pub(crate) fn drop_bytes(&mut self)
         ensures { self.new ≡ [] }
     {

@@ -1,9 +1,7 @@
 //! What holds of all turns and runs, and is continued in `wasmi_laws`: runs in a row, what refusals
 //! keep, permissions, charges, validity, quotas and totals, lent regions, and runs that are equal.
 //! These functions do nothing: each states a law as its contract, for any limiter, of which a run
-//! may also have none.
-//!
-//! Own: upstream states no laws.
+//! may also have none. Own: upstream states no laws.
 ghost use Rattle.wasmi_meter.specs.Limiter.{optional_rules, unlimited_rules};
 ghost use Rattle.wasmi_meter.specs.declared.limiter.NoLimits.{NoLimits};
 ghost use Rattle.wasmi_meter.specs.Capped.{quota_rules};
@@ -37,10 +35,9 @@ pub fn refusals_keep_contents<L: ResourceLimiter>()
 /// exactly the growth that was asked for, or by exactly one notice, which the reply reports, and a
 /// denial by neither.
 ///
-/// A growth is charged its price if it succeeds or fails for lack of memory, and a write over a range
-/// of a memory or a table is charged the bytes or elements that it writes. Nothing else is charged.
-/// The charge was left in the meter, and is taken from it. Without a limiter each question is
-/// permitted.
+/// A growth is charged its price if it succeeds or fails for lack of memory, and a write over a
+/// range of a memory or a table its bytes or elements. Nothing else is charged. The charge was left
+/// in the meter, and is taken from it. Without a limiter each question is permitted.
 pub fn growths_are_permitted<L: ResourceLimiter>()
     ensures turn { GrowsAsPermitted (optional_rules L.rules) }
     ensures run { RunsGrowAsPermitted (optional_rules L.rules) }
@@ -53,9 +50,8 @@ pub fn fuel_balances<L: ResourceLimiter>()
 {}
 
 /// While metering is on, calls that don't set the fuel were charged what was left before and isn't
-/// left after. At a rate above 0 that bounds the bytes that they have written by growing and
-/// copying: `IsSpent` gives each turn that writes less than one fuel's worth of bytes beyond what
-/// its charge pays for.
+/// left after. At a rate above 0 that bounds the bytes they wrote by growing and copying: `IsSpent`
+/// gives each turn that writes less than one fuel's worth of bytes beyond what its charge pays for.
 pub fn charges_are_spent<L: ResourceLimiter>()
     ensures { ChargesAreSpent (optional_rules L.rules) }
 {}

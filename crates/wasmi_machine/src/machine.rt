@@ -97,10 +97,6 @@ impl<'r> Machine<'r> {
     /// later takes no memory for its slot, so it isn't refused with `NoRoom`, unless that is for the
     /// bytes of a data segment. What is reserved already stays so, and doesn't add up: to reserve 4
     /// slots twice, with nothing made between, reserves 4.
-    ///
-    /// # Errors
-    ///
-    /// `AllocError` if memory for some of them is refused. Then none more is reserved.
     pub fn reserve(&mut self, slots: SlotCounts) -> Result<(), AllocError>
         ensures reserved { OnOk result (self.new ≡ with_reserved self.old slots) }
         ensures refused { OnErr result (self.new ≡ self.old) }
@@ -115,8 +111,7 @@ impl<'r> Machine<'r> {
     /// It isn't a call, so a run has no turn for it. The reply is `Done`, `NoSuch` if there is no
     /// such table, or `NoRoom` if the memory is refused; after the last two nothing has changed.
     pub fn reserve_elements(&mut self, table: usize, elements: u64) -> Reply
-        ensures tables { ReservesElementsAt table elements self.old.tables result
-            self.new.tables }
+        ensures tables { ReservesElementsAt table elements self.old.tables result self.new.tables }
         ensures rest { self.new ≡ with_tables self.old self.new.tables }
     {
         let reply = self.store.tables.reserve(table, elements);
@@ -134,11 +129,6 @@ impl<'r> Machine<'r> {
     ///
     /// It isn't a call, so a run has no turn for it: an interpreter pays by it for the instructions
     /// that it executes between calls.
-    ///
-    /// # Errors
-    ///
-    /// `FuelMeteringDisabled` if the meter is off; `OutOfFuel` with the amount if less is left.
-    /// Then nothing is taken.
     pub fn consume_fuel(&mut self, amount: u64) -> Result<u64, FuelError>
         ensures on { IsSome self.old.meter.left
             → ConsumesFuel self.old.meter amount (amount_left self.old.meter - amount) result
@@ -146,8 +136,7 @@ impl<'r> Machine<'r> {
         ensures off { self.old.meter.left ≡ None
             → (result ≡ Err FuelError.FuelMeteringDisabled) × (self.new ≡ self.old) }
         ensures rest { self.new ≡ record self.old { meter = self.new.meter } }
-        ensures balance { MatchResult result
-            (λ left. (self.new.meter.left ≡ Some left)
+        ensures balance { MatchResult result (λ left. (self.new.meter.left ≡ Some left)
             × (self.old.meter.left ≡ Some (left + amount))
             × (self.new ≡ record self.old { meter = meter_after self.old.meter amount }))
             (λ error. self.new ≡ self.old) }

@@ -4,18 +4,21 @@ ghost use Rattle.wasmi_meter.specs.Limiter.{optional_rules, lent_limiter, KeepsL
 ghost use Rattle.wasmi_store.specs.Buffer.{Owned};
 ghost use Rattle.wasmi_store.specs.Growth.{metered, WithCharge};
 ghost use Rattle.wasmi_store.specs.Memory.{MakesMemory, byte_copy_of, byte_filling_of};
-ghost use Rattle.wasmi_machine.specs.Effects.{reply_of, reply_or_no_such, Creates, IfNoRoom};
+ghost use Rattle.wasmi_raw.specs.RawVal.{raw_of_vector};
+ghost use Rattle.wasmi_ops.specs.LoadStoreOps.{as_raw};
+ghost use Rattle.wasmi_machine.specs.Effects.{reply_of, reply_or_no_such, Creates, IfNoRoom, WritesRangeAt, WritesAt, WritesFrom};
 ghost use Rattle.wasmi_machine.specs.State.{live_at};
-ghost use Rattle.std.specs.Option.{option_copied_mut};
-ghost use Rattle.wasmi_machine.specs.MemoryEffects.{bytes_of_stored, memory_copy_of, CreatesLent, WritesMemoryFrom, WritesRangeOfMemoryAt, ReadsBytes, WritesMemoryAt, StoresMemoryAt, StoresMemory};
+ghost use Rattle.std.specs.Option.{option_copied, option_copied_mut, option_map};
+ghost use Rattle.wasmi_machine.specs.MemoryEffects.{bytes_of_stored, load_reply, memory_copy_of, CreatesLent, ReadsBytes, ReadsMemoryAt, WritesMemoryAt, StoresMemoryAt, StoresMemory};
+ghost use Rattle.wasmi_machine.specs.RegisterEffects.{lane_loaded, vector_loaded};
 ghost use Rattle.wasmi_types.specs.Access.{at};
 
 use crate::calls::{ByteList, Reply};
-use crate::data::copy_of_bytes;
+use crate::data::{DataSegment, copy_of_bytes};
 use crate::slots::{Slot, Slots};
 use std::alloc::Global;
 use wasmi_meter::{Fuel, MemoryError, ResourceLimiter, ResourceLimiterRef};
-use wasmi_ops::{StoreLaneOp, StoreOp};
+use wasmi_ops::{LoadLaneOp, LoadOp, StoreLaneOp, StoreOp, VectorLoadOp};
 use wasmi_raw::{RawVal, V128};
 use wasmi_store::range::lies_within;
 use wasmi_store::{Memory, MemoryType};
@@ -76,7 +79,63 @@ impl<'r> Slots<Memory<'r>> {
         }
     }
 
-    /// Writes into a memory.
+    /// Reads bytes of a memory.
+    #[inline(always)]
+    pub(crate) fn read(
+        &self,
+        alloc: Global,
+        index: usize,
+        offset: usize,
+        len: usize,
+    ) -> Option<Reply>
+        ensures { ReadsMemoryAt index offset len self.now.slots.items (reply_or_no_such result) }
+    {
+        let memory = self.live(index)?;
+        Some(bytes_reply(alloc, memory.data(), offset, len))
+    }
+
+    /// Loads a number from a memory.
+    #[inline(always)]
+    pub(crate) fn load(&self, op: LoadOp, index: usize, ptr: u64, offset: u64) -> Option<Reply>
+        ensures { reply_or_no_such result
+            ≡ load_reply op (ptr + offset) (live_at self.now.slots.items index) }
+    {
+        let value = op.load(self.live(index)?.data(), ptr, offset);
+        Some(value.map_or_else(Reply::Trap, Reply::Value))
+    }
+
+    /// Loads a vector from a memory, if the memory is there.
+    #[inline(always)]
+    pub(crate) fn load_vector(
+        &self,
+        op: VectorLoadOp,
+        index: usize,
+        ptr: u64,
+        offset: u64,
+    ) -> Option<Result<V128, TrapCode>>
+        ensures { option_map (as_raw raw_of_vector) result
+            ≡ vector_loaded op (ptr + offset) (live_at self.now.slots.items index) }
+    {
+        Some(op.load(self.live(index)?.data(), ptr, offset))
+    }
+
+    /// Loads a lane of a vector from a memory, if both are there.
+    #[inline(always)]
+    pub(crate) fn load_lane(
+        &self,
+        op: LoadLaneOp,
+        vector: Option<V128>,
+        index: usize,
+        ptr: u64,
+        offset: u64,
+    ) -> Option<Result<V128, TrapCode>>
+        ensures { option_map (as_raw raw_of_vector) result
+            ≡ lane_loaded op (ptr + offset) vector (live_at self.now.slots.items index) }
+    {
+        let (vector, memory) = (vector?, self.live(index)?);
+        Some(op.load(memory.data(), ptr, offset, vector))
+    }
+
     pub(crate) fn write(&mut self, index: usize, offset: usize, bytes: &[u8]) -> Option<Reply>
         ensures written { WritesMemoryAt index offset bytes.now self.old.slots.items
             (reply_or_no_such result) self.new.slots.items }
@@ -86,7 +145,6 @@ impl<'r> Slots<Memory<'r>> {
         Some(memory_reply(memory.write(offset, bytes)))
     }
 
-    /// Fills a range of a memory.
     pub(crate) fn fill(
         &mut self,
         index: usize,
@@ -95,7 +153,8 @@ impl<'r> Slots<Memory<'r>> {
         len: u64,
         fuel: &mut Fuel,
     ) -> Option<Reply>
-        ensures filled { WithCharge (WritesRangeOfMemoryAt index (byte_filling_of dst value len))
+        ensures filled { WithCharge
+            (WritesAt Reply.Memory index (byte_filling_of dst value len))
             (metered self.old.slots.items (Some fuel.old)) (reply_or_no_such result)
             (metered self.new.slots.items (Some fuel.new)) }
         ensures reserved { self.new.slots.reserved ≡ self.old.slots.reserved }
@@ -115,7 +174,7 @@ impl<'r> Slots<Memory<'r>> {
         fuel: &mut Fuel,
     ) -> Option<Reply>
         ensures copied { WithCharge
-            (WritesMemoryFrom (live_at self.old.slots.items src_index) dst_index
+            (WritesFrom Reply.Memory (live_at self.old.slots.items src_index) dst_index
             (memory_copy_of dst src len))
             (metered self.old.slots.items (Some fuel.old)) (reply_or_no_such result)
             (metered self.new.slots.items (Some fuel.new)) }
@@ -143,7 +202,8 @@ impl<'r> Slots<Memory<'r>> {
         fuel: &mut Fuel,
     ) -> Option<Reply>
         ensures copied { WithCharge
-            (WritesMemoryFrom (live_at self.old.slots.items index) index (memory_copy_of dst src len))
+            (WritesFrom Reply.Memory (live_at self.old.slots.items index) index
+            (memory_copy_of dst src len))
             (metered self.old.slots.items (Some fuel.old)) (reply_or_no_such result)
             (metered self.new.slots.items (Some fuel.new)) }
         ensures reserved { self.new.slots.reserved ≡ self.old.slots.reserved }
@@ -152,27 +212,28 @@ impl<'r> Slots<Memory<'r>> {
         Some(memory_reply(memory.copy_within_metered(dst, src, len, fuel)))
     }
 
-    /// Copies a range of a data segment to a memory.
+    /// Copies a range of a data segment to a memory, if the segment is there.
     pub(crate) fn init(
         &mut self,
         index: usize,
-        segment: &[u8],
+        segment: Option<&DataSegment>,
         dst: u64,
         src: u32,
         len: u32,
         fuel: &mut Fuel,
     ) -> Option<Reply>
         ensures copied { WithCharge
-            (WritesRangeOfMemoryAt index (byte_copy_of dst src len segment.now))
+            (WritesRangeAt Reply.Memory index
+            (option_map (byte_copy_of dst src len) (option_copied segment.entry)))
             (metered self.old.slots.items (Some fuel.old)) (reply_or_no_such result)
             (metered self.new.slots.items (Some fuel.new)) }
         ensures reserved { self.new.slots.reserved ≡ self.old.slots.reserved }
     {
+        let segment = segment?.bytes();
         let memory = self.live_mut(index)?;
         Some(memory_reply(memory.init_metered(segment, dst, src, len, fuel)))
     }
 
-    /// Stores to a memory.
     #[inline(always)]
     pub(crate) fn store(
         &mut self,
@@ -206,9 +267,8 @@ pub(crate) enum Stored {
     Lane(StoreLaneOp, V128),
 }
 
-/// The reply to a read of a memory's bytes: the bounds are tested before its buffer is allocated.
-/// No byte takes no memory.
-pub(crate) fn bytes_reply(alloc: Global, memory: &[u8], offset: usize, len: usize) -> Reply
+/// The reply to a read of a memory's bytes. The bounds are tested before memory is taken, if any.
+fn bytes_reply(alloc: Global, memory: &[u8], offset: usize, len: usize) -> Reply
     ensures { ReadsBytes (at memory.now offset len) result }
 {
     if !lies_within(memory, offset as u64, len as u64) {

@@ -47,12 +47,18 @@ impl Registers {
         Some(Reply::Done)
     }
 
-    /// Sets a register to a vector that was loaded, or keeps it where the load has trapped.
-    pub(crate) fn set_loaded(&mut self, dst: u8, vector: Result<V128, TrapCode>) -> Option<Reply>
-        ensures { SetsRegister dst (Some (as_raw raw_of_vector vector)) self.old.values
+    /// Sets a register to a vector that was loaded, if a load was made, or keeps it where the load has
+    /// trapped.
+    #[inline(always)]
+    pub(crate) fn set_loaded(
+        &mut self,
+        dst: u8,
+        loaded: Option<Result<V128, TrapCode>>,
+    ) -> Option<Reply>
+        ensures { SetsRegister dst (option_map (as_raw raw_of_vector) loaded) self.old.values
             (reply_or_no_such result) self.new.values }
     {
-        match vector {
+        match loaded? {
             Ok(vector) => self.set(dst, vector.into()),
             Err(trap) => self.get(dst).map(|_| Reply::Trap(trap)),
         }

@@ -66,10 +66,6 @@ impl<'r> Machine<'r> {
 }
 
 /// Executes calls one after another.
-///
-/// # Errors
-///
-/// `AllocError` if memory for the replies, allocated first, is refused; then nothing has happened.
 #[tactic(auto, using(std::proofs::lemmas::Grind::common_steps))]
 pub fn run<L: ResourceLimiter>(
     machine: &mut Machine,
@@ -93,10 +89,6 @@ pub fn run<L: ResourceLimiter>(
 }
 
 /// Executes calls, as `run`, but only borrows the limiter, so its state afterwards is known.
-///
-/// # Errors
-///
-/// That of `run`.
 pub fn run_lending<L: ResourceLimiter>(
     machine: &mut Machine,
     calls: &[Call],
@@ -114,12 +106,7 @@ pub fn run_lending<L: ResourceLimiter>(
     replies
 }
 
-/// Executes calls, as `run`, under a limiter that holds exactly what the machine has, and does so
-/// again afterwards.
-///
-/// # Errors
-///
-/// That of `run`.
+/// Executes calls, as `run`, under a limiter that holds exactly what the machine has, also after.
 pub fn run_reserving<L: Reserving>(
     machine: &mut Machine,
     calls: &[Call],
@@ -138,10 +125,6 @@ pub fn run_reserving<L: Reserving>(
 
 /// Executes calls one after another, as `run`, but puts their replies into memory that is there, in
 /// place of those that it has. It takes no memory for them.
-///
-/// # Errors
-///
-/// `TooManyCalls` for more calls than the capacity of `replies`; then nothing has happened.
 pub fn run_into<L: ResourceLimiter>(
     machine: &mut Machine,
     calls: &[Call],
@@ -171,10 +154,6 @@ pub fn run_into<L: ResourceLimiter>(
 }
 
 /// Executes calls, as `run_into`, but only borrows the limiter, so its state afterwards is known.
-///
-/// # Errors
-///
-/// That of `run_into`.
 pub fn run_into_lending<L: ResourceLimiter>(
     machine: &mut Machine,
     calls: &[Call],
@@ -196,12 +175,7 @@ pub fn run_into_lending<L: ResourceLimiter>(
     result
 }
 
-/// Executes calls, as `run_into`, under a limiter that holds exactly what the machine has, and does
-/// so again afterwards.
-///
-/// # Errors
-///
-/// That of `run_into`.
+/// Executes calls, as `run_into`, under a limiter that holds what the machine has, also after.
 pub fn run_into_reserving<L: Reserving>(
     machine: &mut Machine,
     calls: &[Call],

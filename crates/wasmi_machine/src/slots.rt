@@ -1,5 +1,4 @@
-//! Slots: what was made, each at the index of its making, and the totals of its sizes; and lists
-//! with memory for more items.
+//! Slots: what was made, at the index of its making, and total sizes; lists with memory for more.
 ghost use Rattle.std.specs.Prelude.{◌≡◌, ◌+◌, ◌<◌, ◌≤◌, ◌++◌, ℕ, [], ◌∷◌, length, map, max, sum, IsSome, IfSome, IfNone, OnErr, OnOk, Some, slice_get, slice_set};
 ghost use Rattle.std.specs.Borrow.{sem, Lends, LendsIf};
 ghost use Rattle.std.specs.Option.{option_copied, option_copied_mut};
@@ -234,14 +233,12 @@ impl<T> ReservedList<T> {
         }
     }
 
-    /// The items.
     pub(crate) fn as_slice(&self) -> &[T]
         ensures { result.now ≡ self.now.items }
     {
         self.items.as_slice()
     }
 
-    /// The item of an index, if there is one.
     pub(crate) fn get(&self, index: usize) -> Option<&T>
         ensures { option_copied result ≡ slice_get self.now.items index }
     {
@@ -268,10 +265,6 @@ impl<T> ReservedList<T> {
     }
 
     /// Asks for memory for so many more items, unless it is there.
-    ///
-    /// # Errors
-    ///
-    /// `AllocError` if it is refused; then so many more items aren't reserved.
     pub(crate) fn try_reserve(&mut self, additional: usize) -> Result<(), AllocError>
         ensures items { self.new.items ≡ self.old.items }
         ensures reserved { self.new.reserved ≡ self.old.reserved }

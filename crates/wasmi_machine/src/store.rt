@@ -5,7 +5,7 @@ ghost use Rattle.wasmi_machine.specs.Effects.{reply_or_no_such};
 
 use crate::calls::{Call, Reply};
 use crate::data::DataSegment;
-use crate::memories::{Stored, bytes_reply};
+use crate::memories::Stored;
 use crate::registers::Registers;
 use crate::slots::{ReservedList, SlotCounts, Slots};
 use crate::values::{
@@ -14,13 +14,11 @@ use crate::values::{
 use std::alloc::{AllocError, Global as Allocator};
 use std::marker::Model;
 use wasmi_meter::{Fuel, ResourceLimiter, ResourceLimiterRef};
-use wasmi_store::{ElementSegment, ElementSegmentRef, Memory, Table};
+use wasmi_store::{ElementSegment, Memory, Table};
 use wasmi_typed::Global;
 
 /// Memories, tables, element segments, data segments and globals by their indices, registers, the
-/// meter, and the spare region, if there is one.
-///
-/// Core specification, the store.
+/// meter, and the spare region, if there is one. Core specification, the store.
 #[derive(Drop)]
 pub(crate) struct MachineStore<'r> {
     pub(crate) alloc: Allocator,
@@ -82,7 +80,6 @@ impl<'r> MachineStore<'r> {
         Ok(())
     }
 
-    /// Grows a memory by so many pages.
     #[inline(always)]
     pub(crate) fn grow_memory<L: ResourceLimiter>(
         &mut self,
@@ -100,7 +97,6 @@ impl<'r> MachineStore<'r> {
         Some(grown.map_or_else(Reply::Memory, Reply::Number))
     }
 
-    /// Executes one call.
     #[inline(always)]
     pub(crate) fn step<L: ResourceLimiter>(
         &mut self,
@@ -154,7 +150,6 @@ impl<'r> MachineStore<'r> {
         }
     }
 
-    /// Executes one call on memories.
     fn step_memory<L: ResourceLimiter>(
         &mut self,
         call: &Call,
@@ -177,10 +172,7 @@ impl<'r> MachineStore<'r> {
                 memory,
                 offset,
                 len,
-            } => {
-                let memory = self.memories.live(*memory)?;
-                Some(bytes_reply(self.alloc, memory.data(), *offset, *len))
-            }
+            } => self.memories.read(self.alloc, *memory, *offset, *len),
             Call::Write {
                 memory,
                 offset,
@@ -191,11 +183,7 @@ impl<'r> MachineStore<'r> {
                 memory,
                 ptr,
                 offset,
-            } => {
-                let memory = self.memories.live(*memory)?;
-                let value = op.load(memory.data(), *ptr, *offset);
-                Some(value.map_or_else(Reply::Trap, Reply::Value))
-            }
+            } => self.memories.load(*op, *memory, *ptr, *offset),
             Call::Store {
                 op,
                 memory,
@@ -229,15 +217,14 @@ impl<'r> MachineStore<'r> {
                 src,
                 len,
             } => {
-                let segment = self.data_segments.get(*segment)?;
+                let segment = self.data_segments.get(*segment);
                 self.memories
-                    .init(*memory, segment.bytes(), *dst, *src, *len, &mut self.fuel)
+                    .init(*memory, segment, *dst, *src, *len, &mut self.fuel)
             }
             _ => unreachable!(),
         }
     }
 
-    /// Executes one call on tables.
     fn step_table<L: ResourceLimiter>(
         &mut self,
         call: &Call,
@@ -258,9 +245,7 @@ impl<'r> MachineStore<'r> {
                     .grow(*table, *delta, *init, &mut self.fuel, limiter)
             }
             Call::DropTable(table) => self.tables.drop_live(*table),
-            Call::GetElement { table, index } => Some(Reply::Reference(
-                self.tables.live(*table)?.get(*index),
-            )),
+            Call::GetElement { table, index } => self.tables.get(*table, *index),
             Call::SetElement {
                 table,
                 index,
@@ -273,15 +258,9 @@ impl<'r> MachineStore<'r> {
                 src,
                 len,
             } => {
-                let segment = self.segments.get(*segment)?;
-                self.tables.init(
-                    *table,
-                    ElementSegmentRef::from(segment),
-                    *dst,
-                    *src,
-                    *len,
-                    &mut self.fuel,
-                )
+                let segment = self.segments.get(*segment);
+                self.tables
+                    .init(*table, segment, *dst, *src, *len, &mut self.fuel)
             }
             Call::CopyTable {
                 dst_table,
@@ -311,9 +290,15 @@ impl<'r> MachineStore<'r> {
     {
         match call {
             Call::SetRegister { dst, value } => self.registers.set(*dst, *value),
-            Call::GetRegister(register) => Some(Reply::Value(self.registers.get(*register)?)),
-            Call::Test { op, a } => Some(Reply::Value(op.apply(self.registers.vector(*a)?))),
-            Call::Extract { op, a } => Some(Reply::Value(op.apply(self.registers.vector(*a)?))),
+            Call::GetRegister(register) => self.registers.get(*register).map(Reply::Value),
+            Call::Test { op, a } => {
+                let a = self.registers.vector(*a);
+                a.map(|a| Reply::Value(op.apply(a)))
+            }
+            Call::Extract { op, a } => {
+                let a = self.registers.vector(*a);
+                a.map(|a| Reply::Value(op.apply(a)))
+            }
             Call::Make { dst, .. } => self.registers.set_made(*dst, call),
             Call::Unary { dst, .. } => self.registers.set_made(*dst, call),
             Call::Binary { dst, .. } => self.registers.set_made(*dst, call),
@@ -339,8 +324,7 @@ impl<'r> MachineStore<'r> {
                 ptr,
                 offset,
             } => {
-                let memory = self.memories.live(*memory)?;
-                let vector = op.load(memory.data(), *ptr, *offset);
+                let vector = self.memories.load_vector(*op, *memory, *ptr, *offset);
                 self.registers.set_loaded(*dst, vector)
             }
             Call::LoadLane {
@@ -351,8 +335,8 @@ impl<'r> MachineStore<'r> {
                 ptr,
                 offset,
             } => {
-                let (a, memory) = (self.registers.vector(*a)?, self.memories.live(*memory)?);
-                let vector = op.load(memory.data(), *ptr, *offset, a);
+                let a = self.registers.vector(*a);
+                let vector = self.memories.load_lane(*op, a, *memory, *ptr, *offset);
                 self.registers.set_loaded(*dst, vector)
             }
             Call::VectorStore {

@@ -1,18 +1,18 @@
 //! What calls do to the tables of a machine, by their indices, and the replies to calls on tables.
 ghost use Rattle.std.specs.Prelude.{◌≡◌, ◌≤◌, length, Some};
+ghost use Rattle.std.specs.Option.{option_copied, option_map};
 ghost use Rattle.wasmi_meter.specs.Limiter.{optional_rules, lent_limiter, KeepsLoan};
 ghost use Rattle.wasmi_store.specs.Growth.{metered_value, metered, WithCharge};
-ghost use Rattle.wasmi_store.specs.Segment.{segment_of};
 ghost use Rattle.wasmi_store.specs.Table.{MakesTable, GrowsTableCharging, filling_of, copy_of, initialization_of};
-ghost use Rattle.wasmi_machine.specs.Effects.{reply_of, reply_or_no_such, ActsAt, Creates, IfNoRoom};
-ghost use Rattle.wasmi_machine.specs.TableEffects.{ReservesElementsAt, SetsElementAt, WritesTableAt, WritesTableFrom};
+ghost use Rattle.wasmi_machine.specs.Effects.{reply_of, reply_or_no_such, ActsAt, Creates, IfNoRoom, WritesRangeAt, WritesAt, WritesFrom};
+ghost use Rattle.wasmi_machine.specs.TableEffects.{element_reply, ReservesElementsAt, SetsElementAt};
 ghost use Rattle.wasmi_machine.specs.State.{live_at};
 
 use crate::calls::Reply;
 use crate::slots::{Slot, Slots};
 use std::alloc::Global;
 use wasmi_meter::{Fuel, ResourceLimiter, ResourceLimiterRef, TableError};
-use wasmi_store::{ElementSegmentRef, Table, TableType};
+use wasmi_store::{ElementSegment, ElementSegmentRef, Table, TableType};
 use wasmi_typed::TypedRawRef;
 
 impl Slots<Table> {
@@ -40,7 +40,6 @@ impl Slots<Table> {
         }
     }
 
-    /// Grows a table by so many elements.
     pub(crate) fn grow<L: ResourceLimiter>(
         &mut self,
         index: usize,
@@ -50,8 +49,7 @@ impl Slots<Table> {
         limiter: &mut ResourceLimiterRef<L>,
     ) -> Option<Reply>
         ensures loan { KeepsLoan limiter.old limiter.new }
-        ensures grown { WithCharge
-            (ActsAt index (reply_of Reply.Number Reply.Table)
+        ensures grown { WithCharge (ActsAt index (reply_of Reply.Number Reply.Table)
             (GrowsTableCharging (optional_rules L.rules) delta init))
             (metered_value self.old.slots.items (Some fuel.old) (lent_limiter limiter.old))
             (reply_or_no_such result)
@@ -76,7 +74,15 @@ impl Slots<Table> {
         }
     }
 
-    /// Sets an element of a table.
+    /// The element of a table at an index, as a reply.
+    #[inline(always)]
+    pub(crate) fn get(&self, index: usize, element: u64) -> Option<Reply>
+        ensures { reply_or_no_such result
+            ≡ element_reply element (live_at self.now.slots.items index) }
+    {
+        Some(Reply::Reference(self.live(index)?.get(element)))
+    }
+
     pub(crate) fn set(&mut self, index: usize, element: u64, value: TypedRawRef) -> Option<Reply>
         ensures set { SetsElementAt index element value self.old.slots.items
             (reply_or_no_such result) self.new.slots.items }
@@ -86,7 +92,6 @@ impl Slots<Table> {
         Some(table_reply(table.set(element, value)))
     }
 
-    /// Fills a part of a table.
     pub(crate) fn fill(
         &mut self,
         index: usize,
@@ -95,7 +100,7 @@ impl Slots<Table> {
         len: u64,
         fuel: &mut Fuel,
     ) -> Option<Reply>
-        ensures filled { WithCharge (WritesTableAt index (filling_of dst value len))
+        ensures filled { WithCharge (WritesAt Reply.Table index (filling_of dst value len))
             (metered self.old.slots.items (Some fuel.old)) (reply_or_no_such result)
             (metered self.new.slots.items (Some fuel.new)) }
         ensures reserved { self.new.slots.reserved ≡ self.old.slots.reserved }
@@ -108,18 +113,20 @@ impl Slots<Table> {
     pub(crate) fn init(
         &mut self,
         index: usize,
-        segment: ElementSegmentRef,
+        segment: Option<&ElementSegment>,
         dst: u64,
         src: u32,
         len: u32,
         fuel: &mut Fuel,
     ) -> Option<Reply>
         ensures copied { WithCharge
-            (WritesTableAt index (initialization_of dst src len (segment_of segment.entry)))
+            (WritesRangeAt Reply.Table index
+            (option_map (initialization_of dst src len) (option_copied segment.entry)))
             (metered self.old.slots.items (Some fuel.old)) (reply_or_no_such result)
             (metered self.new.slots.items (Some fuel.new)) }
         ensures reserved { self.new.slots.reserved ≡ self.old.slots.reserved }
     {
+        let segment = ElementSegmentRef::from(segment?);
         let table = self.live_mut(index)?;
         Some(table_reply(table.init_metered(segment, dst, src, len, fuel)))
     }
@@ -135,7 +142,7 @@ impl Slots<Table> {
         fuel: &mut Fuel,
     ) -> Option<Reply>
         ensures copied { WithCharge
-            (WritesTableFrom (live_at self.old.slots.items src_index) dst_index
+            (WritesFrom Reply.Table (live_at self.old.slots.items src_index) dst_index
             (copy_of dst src len))
             (metered self.old.slots.items (Some fuel.old)) (reply_or_no_such result)
             (metered self.new.slots.items (Some fuel.new)) }
@@ -163,7 +170,8 @@ impl Slots<Table> {
         fuel: &mut Fuel,
     ) -> Option<Reply>
         ensures copied { WithCharge
-            (WritesTableFrom (live_at self.old.slots.items index) index (copy_of dst src len))
+            (WritesFrom Reply.Table (live_at self.old.slots.items index) index
+            (copy_of dst src len))
             (metered self.old.slots.items (Some fuel.old)) (reply_or_no_such result)
             (metered self.new.slots.items (Some fuel.new)) }
         ensures reserved { self.new.slots.reserved ≡ self.old.slots.reserved }

@@ -1,8 +1,8 @@
 //! The element segments, data segments and globals of a machine, by their indices: functions of one
 //! list of the store each, so that what else the store has stays out of their contracts.
-ghost use Rattle.std.specs.Prelude.{◌≡◌, ◌⊎◌, ◌<◌, ◌≤◌, length};
+ghost use Rattle.std.specs.Prelude.{◌≡◌, ◌⊎◌, ◌<◌, ◌≤◌, length, slice_get};
 ghost use Rattle.wasmi_machine.specs.Effects.{AddsItem};
-ghost use Rattle.wasmi_machine.specs.ValueEffects.{CreatesSegment, DropsDataAt, DropsItemsAt, SetsGlobalAt, GetsGlobalAt};
+ghost use Rattle.wasmi_machine.specs.ValueEffects.{CreatesSegment, DropsDataAt, DropsItemsAt, SetsGlobalAt, global_reply};
 
 use crate::calls::Reply;
 use crate::data::DataSegment;
@@ -13,7 +13,6 @@ use wasmi_store::ElementSegment;
 use wasmi_typed::{Global, GlobalType, TypedRawVal};
 use wasmi_types::RefType;
 
-/// Makes an element segment.
 pub(crate) fn create_segment(
     segments: &mut ReservedList<ElementSegment>,
     alloc: Allocator,
@@ -33,7 +32,6 @@ pub(crate) fn create_segment(
     }
 }
 
-/// Drops the items of an element segment.
 #[tactic(auto, using(std::proofs::lemmas::Grind::elements))]
 pub(crate) fn drop_items(segments: &mut ReservedList<ElementSegment>, index: usize) -> Reply
     ensures dropped { DropsItemsAt index segments.old.items result segments.new.items }
@@ -63,7 +61,6 @@ pub(crate) fn create_data(
     }
 }
 
-/// Drops the bytes of a data segment.
 pub(crate) fn drop_data(segments: &mut ReservedList<DataSegment>, index: usize) -> Reply
     ensures dropped { DropsDataAt index segments.old.items result segments.new.items }
     ensures reserved { segments.new.reserved ≡ segments.old.reserved }
@@ -75,7 +72,6 @@ pub(crate) fn drop_data(segments: &mut ReservedList<DataSegment>, index: usize) 
     Reply::Done
 }
 
-/// Makes a global.
 pub(crate) fn create_global(
     globals: &mut ReservedList<Global>,
     value: RawVal,
@@ -100,7 +96,6 @@ fn add_item<T: Drop>(items: &mut ReservedList<T>, item: T) -> Reply
     Reply::Made(items.push(item))
 }
 
-/// Sets a global.
 #[tactic(auto, using(std::proofs::lemmas::Grind::elements))]
 pub(crate) fn set_global(
     globals: &mut ReservedList<Global>,
@@ -118,9 +113,8 @@ pub(crate) fn set_global(
         .map_or_else(Reply::Global, |()| Reply::Done)
 }
 
-/// The value of a global.
 pub(crate) fn get_global(globals: &[Global], index: usize) -> Reply
-    ensures { GetsGlobalAt index globals.now result }
+    ensures { result ≡ global_reply (slice_get globals.now index) }
 {
     globals
         .get(index)

@@ -1,6 +1,5 @@
 -- A limiter of one of three kinds: its rules, and the quota and the caps that it has, if it is a quota.
-use Rattle.std.specs.Prelude.{◌≡◌, Option, Some, None, Ok, true}
-use Rattle.std.specs.Option.{option_map}
+use Rattle.std.specs.Prelude.{◌≡◌, Option, Some, None, Ok, true, option_map}
 use Rattle.wasmi_meter.specs.declared.{quota.Amounts.Amounts, any_limiter.AnyLimiter.AnyLimiter, quota.Quota.Quota}
 use Rattle.wasmi_meter.specs.declared.any_limiter.AnyLimiter.TheVariants as limiter
 use Rattle.wasmi_meter.specs.Capped.{amounts_of, cap_of, quota_rules}

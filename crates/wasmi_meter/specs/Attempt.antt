@@ -1,8 +1,7 @@
 -- An attempt, which is one creation or growth of a value with its meter and its limiter: what it begins with, what is
 -- asked and paid, what is due and whether that is left, how it can end, and which answer, charge and value each end
 -- means.
-use Rattle.std.specs.Prelude.{◌≡◌, ℕ, Bool, true, nat_le, is_none, ◌&&◌, if◌then◌else◌, MatchBool, Option, Some, None, Result, Ok, Err}
-use Rattle.std.specs.Option.{option_map}
+use Rattle.std.specs.Prelude.{◌≡◌, ℕ, Bool, true, nat_le, is_none, ◌&&◌, if◌then◌else◌, MatchBool, Option, Some, None, Result, Ok, Err, option_map}
 use Rattle.wasmi_meter.specs.declared.fuel.CustomFuelCosts.{CustomFuelCosts}
 use Rattle.wasmi_meter.specs.Limiter.{Question, Failure, Answer, NoticeAnswer, IsDenial, Rules}
 use Rattle.wasmi_meter.specs.Meter.{Meter, amount_left, meter_after, due}

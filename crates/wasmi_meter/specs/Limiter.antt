@@ -1,6 +1,6 @@
 -- What a limiter is asked and told and what it answers, its rules, a limiter that may be absent, and the loan of a
 -- limiter by a reference to one.
-use Rattle.std.specs.Prelude.{◌≡◌, ℕ, Option, Some, None, Result, Ok, Bool, true}
+use Rattle.std.specs.Prelude.{◌≡◌, ℕ, Option, Some, None, Result, Ok, Bool, true, option_map}
 use Rattle.wasmi_meter.specs.declared.{limiter.Kind.Kind, error.LimiterError.LimiterError, error.MemoryError.MemoryError, error.TableError.TableError, limiter.LimiterRef.LimiterRef}
 use Rattle.wasmi_meter.specs.declared.limiter.Kind.TheVariants.{Bytes, Elements}
 use Rattle.std.specs.Option.{option_copied_mut}
@@ -83,18 +83,8 @@ SameLoan _ _ = ⊥
 abbrev pub KeepsLoan : {L : Type 0} → LimiterRef (MutBor L) → LimiterRef (MutBor L) → Type 0
 KeepsLoan r r' = SameLoan r.limiter r'.limiter
 
--- what a reference shows, if there is one
-abbrev pub shown_of : {R L : Type 0} → (R → L) → Option R → Option L
-shown_of shown None = None
-shown_of shown (Some r) = Some (shown r)
-
--- the reference, whose limiter is l now
-abbrev pub ending_with : {R L : Type 0} → (R → L → R) → Option R → L → Option R
-ending_with last None l = None
-ending_with last (Some r) l = Some (last r l)
-
 -- r lends the limiter out of s, and s ends with the last value that was written through it
 abbrev pub LendsLimiter : (R L : RattleType) → (R.Denot → L.Denot → R.Denot) → MutBor (LimiterRef R.Denot)
     → Option (MutBor L.Denot) → Fml
 LendsLimiter R L last s r =
-    LendsIf (the_row R) L s r (λ l. record s.now { limiter = ending_with last s.now.limiter l }) s.now
+    LendsIf (the_row R) L s r (λ l. record s.now { limiter = option_map (λ lender. last lender l) s.now.limiter }) s.now

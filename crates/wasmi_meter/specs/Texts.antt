@@ -1,6 +1,5 @@
 -- The texts of errors of fuel meters, limiters, memories and tables: words, and the number after them, if any.
-use Rattle.std.specs.Prelude.{ℕ, List, ◌++◌, Option, None, Some, codes}
-use Rattle.std.specs.Fmt.{decimal}
+use Rattle.std.specs.Prelude.{ℕ, List, ◌++◌, Option, None, Some, codes, decimal}
 use Rattle.wasmi_meter.specs.declared.{error.LimiterError.LimiterError, error.MemoryError.MemoryError, error.TableError.TableError, fuel.FuelError.FuelError}
 use Rattle.wasmi_meter.specs.declared.error.LimiterError.TheVariants as limiter
 use Rattle.wasmi_meter.specs.declared.error.MemoryError.TheVariants as memory

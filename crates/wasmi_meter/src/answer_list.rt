@@ -20,8 +20,7 @@ pub enum LimiterAnswer {
 }
 
 /// A limiter that answers each question by the next answer of a list, and permits once there is
-/// none left. It answers a notice by the answer to the last question, and accepts one before the
-/// first question.
+/// none left. It answers a notice by the answer to the last question, and accepts one before any.
 #[derive(Debug, Drop)]
 pub struct AnswerList {
     /// The answers, one for each question.

@@ -8,9 +8,7 @@ ghost use Rattle.wasmi_meter.specs.declared.error.TableError.TheVariants as tabl
 use crate::fuel::FuelError;
 use std::fmt;
 
-/// The error that a resource limiter returns to a question or to a notice.
-///
-/// Upstream: `wasmi_core::LimiterError`.
+/// A resource limiter's error, to a question or a notice. Upstream: `wasmi_core::LimiterError`.
 #[derive(Clone, Copy, Debug, PartialEq, Eq)]
 pub enum LimiterError {
     /// The limiter refuses what it was asked, or rejects the notice that it got.
@@ -27,9 +25,7 @@ impl fmt::Display for LimiterError {
 
 impl std::error::Error for LimiterError {}
 
-/// Why a call on a linear memory or a memory type is refused.
-///
-/// Upstream: `wasmi_core::MemoryError`.
+/// Why a call on a linear memory or a memory type is refused. Upstream: `wasmi_core::MemoryError`.
 #[derive(Clone, Copy, Debug, PartialEq, Eq)]
 pub enum MemoryError {
     /// The system refused memory for an owned memory.
@@ -38,8 +34,7 @@ pub enum MemoryError {
     OutOfBoundsGrowth,
     /// A read or a write that ends past the memory.
     OutOfBoundsAccess,
-    /// A page size other than 1 byte and 64 KiB, or limits above the greatest number of pages or
-    /// out of order.
+    /// Pages not of 1 byte or 64 KiB, or limits out of order or above the greatest number of pages.
     InvalidMemoryType,
     /// A borrowed buffer that is too short.
     InvalidStaticBufferSize,
@@ -97,9 +92,7 @@ impl fmt::Display for MemoryError {
 
 impl std::error::Error for MemoryError {}
 
-/// Why a call on a table is refused.
-///
-/// Upstream: `wasmi_core::TableError`.
+/// Why a call on a table is refused. Upstream: `wasmi_core::TableError`.
 #[derive(Clone, Copy, Debug, PartialEq, Eq)]
 pub enum TableError {
     /// The system refused memory.

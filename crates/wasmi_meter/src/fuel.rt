@@ -8,9 +8,8 @@ use std::fmt;
 use std::marker::Model;
 use wasmi_raw::RawRef;
 
-/// The number of bytes that a copied value counts for, in place of its size in memory.
-///
-/// Own: upstream takes the size in memory of any type.
+/// The number of bytes that a copied value counts for, in place of its size in memory. Own:
+/// upstream takes the size in memory of any type.
 pub trait ValueSize {
     /// The number of bytes, in contracts.
     ghost SIZE: { ℕ };
@@ -37,9 +36,7 @@ impl ValueSize for RawRef {
     const SIZE: u64 = 4;
 }
 
-/// What work costs.
-///
-/// Upstream: `wasmi_core::FuelCosts`.
+/// What work costs. Upstream: `wasmi_core::FuelCosts`.
 pub trait FuelCosts {
     /// The three costs as one value.
     ghost costs: { Self → CustomFuelCosts };
@@ -57,9 +54,7 @@ pub trait FuelCosts {
         ensures { result ≡ (costs self.now).fuel_per_bytes_validated };
 }
 
-/// Costs that a host chooses.
-///
-/// Upstream: `wasmi_core::CustomFuelCosts`.
+/// Costs that a host chooses. Upstream: `wasmi_core::CustomFuelCosts`.
 #[derive(Clone, Copy, Debug)]
 pub struct CustomFuelCosts {
     /// How many bytes are copied for one unit of fuel; at 0 each copy costs `u64::MAX`.
@@ -94,9 +89,8 @@ const DEFAULT_COSTS: CustomFuelCosts = CustomFuelCosts {
     fuel_per_bytes_validated: 2,
 };
 
-/// The costs of a meter: those that a host chose, or the default ones.
-///
-/// Upstream: `wasmi_core::FuelCostsProvider`.
+/// The costs of a meter: those that a host chose, or the default ones. Upstream:
+/// `wasmi_core::FuelCostsProvider`.
 #[derive(Clone, Debug, Default, Drop)]
 pub struct FuelCostsProvider {
     custom: Option<CustomFuelCosts>,
@@ -112,7 +106,6 @@ impl FuelCostsProvider {
         }
     }
 
-    /// The costs.
     fn costs(&self) -> CustomFuelCosts
         ensures { result ≡ costs_of self.now }
     {
@@ -146,9 +139,7 @@ impl FuelCostsProvider {
     }
 }
 
-/// Why a call on a fuel meter is refused.
-///
-/// Upstream: `wasmi_core::FuelError`.
+/// Why a call on a fuel meter is refused. Upstream: `wasmi_core::FuelError`.
 #[derive(Clone, Debug, PartialEq, Eq, Drop)]
 pub enum FuelError {
     /// The meter is off, so there is no fuel to set, read or consume.
@@ -198,9 +189,7 @@ impl fmt::Display for FuelError {
 
 impl std::error::Error for FuelError {}
 
-/// A fuel meter. It is on or off, and stays so.
-///
-/// Upstream: `wasmi_core::Fuel`.
+/// A fuel meter. It is on or off, and stays so. Upstream: `wasmi_core::Fuel`.
 #[derive(Drop, Debug)]
 pub struct Fuel {
     remaining: u64,
@@ -273,10 +262,6 @@ impl Fuel {
 
     /// Consumes `delta` fuel, and returns what is left. It doesn't test whether the meter is on:
     /// one that is off has no fuel left.
-    ///
-    /// # Errors
-    ///
-    /// `OutOfFuel` with `delta` if less is left; then nothing is consumed.
     pub fn consume_fuel_unchecked(&mut self, delta: u64) -> Result<u64, FuelError>
         ensures { ConsumesFuel self.old delta (amount_left self.old - delta) result self.new }
     {
@@ -287,19 +272,13 @@ impl Fuel {
         Ok(left)
     }
 
-    /// Consumes the fuel that `f` computes from the costs, and returns what is left.
-    ///
-    /// # Errors
-    ///
-    /// `FuelMeteringDisabled` if the meter is off, and `f` isn't called; `OutOfFuel` if less is
-    /// left, and nothing is consumed.
+    /// Consumes the fuel that `f`, called if the meter is on, makes of the costs; returns the rest.
     pub fn consume_fuel<C: FnOnce(&FuelCostsProvider) -> u64>(
         &mut self,
         f: C,
     ) -> Result<u64, FuelError>
         requires callable { IsSome self.old.left → C.IsAlwaysCallable f }
-        ensures on { IsSome self.old.left
-            → (amount : ℕ) × Computes C.FnOnce f self.old.costs amount
+        ensures on { IsSome self.old.left → (amount : ℕ) × Computes C.FnOnce f self.old.costs amount
             × ConsumesFuel self.old amount (amount_left self.old - amount) result self.new }
         ensures off { self.old.left ≡ None
             → (result ≡ Err FuelError.FuelMeteringDisabled) × (self.new ≡ self.old) }
@@ -310,17 +289,12 @@ impl Fuel {
     }
 
     /// Consumes the fuel that `f` computes from the costs; if the meter is off, `f` isn't called.
-    ///
-    /// # Errors
-    ///
-    /// `OutOfFuel` if less is left; then nothing is consumed.
     pub fn consume_fuel_if<C: FnOnce(&FuelCostsProvider) -> u64>(
         &mut self,
         f: C,
     ) -> Result<(), FuelError>
         requires callable { IsSome self.old.left → C.IsAlwaysCallable f }
-        ensures on { IsSome self.old.left
-            → (amount : ℕ) × Computes C.FnOnce f self.old.costs amount
+        ensures on { IsSome self.old.left → (amount : ℕ) × Computes C.FnOnce f self.old.costs amount
             × ConsumesFuel self.old amount tt result self.new }
         ensures off { self.old.left ≡ None → (result ≡ Ok tt) × (self.new ≡ self.old) }
     {

@@ -1,19 +1,17 @@
 //! Resource limiters: each is asked before a growth of a memory or a table, and notified if a
 //! growth that it permitted fails. Limiters by the kind of what grows, without limits, and absent
 //! ones; and references to limiters that are lent.
-ghost use Rattle.std.specs.Prelude.{◌≡◌, ◌≤◌, ℕ, Option, IsSome, Some, None, Result, Ok, true};
+ghost use Rattle.std.specs.Prelude.{◌≡◌, ◌≤◌, ℕ, Option, IsSome, Some, None, Result, Ok, option_map, true};
 ghost use Rattle.std.specs.Option.{option_copied_mut};
 ghost use Rattle.std.specs.Borrow.{sem, Lends};
 ghost use denote.Ref.{at_last};
-ghost use Rattle.wasmi_meter.specs.Limiter.{Failure, MemoryFailure, TableFailure, Rules, kind_of, optional_rules, unlimited_rules, loan, lent_limiter, KeepsLoan, shown_of, LendsLimiter};
+ghost use Rattle.wasmi_meter.specs.Limiter.{Failure, MemoryFailure, TableFailure, Rules, kind_of, optional_rules, unlimited_rules, loan, lent_limiter, KeepsLoan, LendsLimiter};
 ghost use Rattle.wasmi_meter.specs.declared.limiter.Kind.TheVariants.{Bytes, Elements};
 
 use crate::error::{LimiterError, MemoryError, TableError};
 use std::fmt;
 
-/// What grows: a linear memory, in bytes, or a table, in elements.
-///
-/// Own: upstream has a pair of methods for each.
+/// What grows: a memory, in bytes, or a table, in elements. Own: upstream has two methods for each.
 #[derive(Clone, Copy, Debug, PartialEq, Eq)]
 pub enum Kind {
     /// The bytes of linear memories.
@@ -70,13 +68,11 @@ pub trait ResourceLimiter {
             (record { kind = Elements; current = current; desired = desired; maximum = maximum })
             result self.new };
 
-    /// A memory was permitted to grow and did not, because of this error. After `Ok(())` the call
-    /// returns this error.
+    /// A permitted growth of a memory failed by this error, which the call returns after `Ok(())`.
     fn memory_grow_failed(&mut self, error: &MemoryError) -> Result<(), LimiterError>
         ensures { rules.noticed self.old (MemoryFailure error.now) result self.new };
 
-    /// A table was permitted to grow and did not, because of this error. After `Ok(())` the call
-    /// returns this error.
+    /// A permitted growth of a table failed by this error, which the call returns after `Ok(())`.
     fn table_grow_failed(&mut self, error: &TableError) -> Result<(), LimiterError>
         ensures { rules.noticed self.old (TableFailure error.now) result self.new };
 
@@ -244,9 +240,8 @@ mod sealed {
     impl<'a, L> Sealed for &'a mut L {}
 }
 
-/// What lends a value: a `&mut` reference, and nothing else.
-///
-/// Own: it gives contracts a name for the reference after the loan.
+/// What lends a value: a `&mut` reference, and nothing else. Own: it gives contracts a name for the
+/// reference after the loan.
 pub trait Lender: sealed::Sealed {
     /// The type of what is lent.
     type Lent;
@@ -294,9 +289,7 @@ impl<R> fmt::Debug for LimiterRef<R> {
 /// If this reference goes out of scope or is dropped, nothing is known of the limiter afterwards.
 /// To know its state, end the loan by [`LimiterRef::into_resource_limiter`], or use a function that
 /// borrows the limiter for one call: `new_lending` and `grow_lending` of memories and tables,
-/// `step_lending` and `run_lending` of machines.
-///
-/// Upstream: `wasmi_core::ResourceLimiterRef`.
+/// `step_lending` and `run_lending` of machines. Upstream: `wasmi_core::ResourceLimiterRef`.
 pub type ResourceLimiterRef<'a, L> = LimiterRef<&'a mut L>;
 
 impl<'a, L> Default for LimiterRef<&'a mut L> {
@@ -326,9 +319,8 @@ impl<R> LimiterRef<R> {
         self.limiter
     }
 
-    /// Ends the loan of a limiter that is there, as `into_resource_limiter` does.
-    ///
-    /// Own: functions that borrow a limiter for one call end its loan by it.
+    /// Ends the loan of a limiter that is there, as `into_resource_limiter` does. Own: functions
+    /// that borrow a limiter for one call end its loan by it.
     pub fn into_limiter(self) -> R
         requires lent { IsSome (loan self) }
         ensures value { loan self ≡ Some result }
@@ -342,7 +334,7 @@ impl<R> LimiterRef<R> {
         R: Lender,
         ensures* writes_back { sem 𝓛
             (LendsLimiter R.row R.Lent.row R.Lender.last self.entry result) }
-        ensures value { option_copied_mut result ≡ shown_of R.Lender.shown (loan self.old) }
+        ensures value { option_copied_mut result ≡ option_map R.Lender.shown (loan self.old) }
     {
         match &mut self.limiter {
             Some(limiter) => Some(limiter.lend()),

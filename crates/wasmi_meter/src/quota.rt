@@ -46,8 +46,7 @@ impl Holdings {
         Holdings { held, last: None }
     }
 
-    /// The holdings of which `held` and `last` returned these values: so much is held, and this
-    /// difference can be given back.
+    /// The holdings of which `held` and `last` gave these: what is held, and can be given back.
     pub fn resume(held: Amounts, last: Option<(Kind, u64)>) -> Self
         ensures { result ≡ record { held = held; last = last } }
     {
@@ -156,8 +155,7 @@ pub trait CappedLimiter {
     fn holdings(&self) -> Holdings
         ensures { result ≡ capped.holdings self.now };
 
-    /// Takes `difference` more of a kind, if all that is held of it stays within the cap. Returns
-    /// whether it was taken.
+    /// Takes `difference` more of a kind, if all held of it stays within the cap; says whether.
     fn take(&mut self, kind: Kind, difference: u64) -> bool
         ensures { HoldsMore capped self.old kind difference result self.new };
 
@@ -216,10 +214,8 @@ impl Quota {
         ensures nothing_held { holdings result ≡ record { held = nothing; last = None } }
         ensures within { IsWithinCaps result }
     {
-        Quota {
-            caps: Amounts { bytes, elements },
-            holdings: Holdings::new(Amounts::default()),
-        }
+        let caps = Amounts { bytes, elements };
+        Quota::resume(caps, Holdings::new(Amounts::default()))
     }
 
     /// The quota whose caps and holdings were read before by `caps` and `holdings`. Two quotas that

@@ -1,7 +1,6 @@
-//! The words of a line, and what they write: numbers, types, references, a limiter's answers and
-//! the names of instructions, also of those on one lane, by one word, by as many as a command has,
-//! or as a list.
-
+//! The words of a line, and what they write: numbers, types, references, a limiter's answers, the
+//! names of instructions, also of those on one lane with its index, and the indices of lanes, by
+//! one word, by as many as a command has, or as a list.
 ghost use Rattle.std.specs.Char.{digit_value};
 ghost use Rattle.std.specs.Int.{IsInRange};
 ghost use Rattle.std.specs.Option.{SomeIff};
@@ -39,8 +38,7 @@ pub fn read_words<'a>(line: &'a str, words: &mut Vec<&'a str>) -> Result<(), All
     Ok(())
 }
 
-/// The number that a word writes in decimal digits, if it fits its type. Leading zeros are allowed,
-/// a sign isn't.
+/// The number that a word writes in decimal digits (zeros may lead), if it fits its type.
 pub fn number<T: TryFrom<u64>>(word: &str) -> Result<T, LineError>
 where
     T::Error: Drop,
@@ -72,8 +70,7 @@ fn decimal(word: &str) -> Result<u64, LineError>
 /// The number with one more digit, if the byte is a digit and the result is below 2^64.
 #[inline(always)]
 fn appended(number: u64, byte: u8) -> Option<u64>
-    ensures { SomeIff result
-        (IsInRange 48 57 byte × (number * 10 + digit_value byte < 2 ^ 64))
+    ensures { SomeIff result (IsInRange 48 57 byte × (number * 10 + digit_value byte < 2 ^ 64))
         (number * 10 + digit_value byte) }
 {
     let digit = byte.wrapping_sub(b'0');
@@ -101,7 +98,7 @@ impl Operand for u64 {
     }
 }
 
-// Where a `usize` has 32 bits, a greater number counts as the greatest, which is past the end of every list.
+// Where a `usize` has 32 bits, a greater number counts as the greatest, past the end of every list.
 impl Operand for usize {
     ghost writes = { WritesNumber 64 };
 

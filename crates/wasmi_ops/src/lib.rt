@@ -1,8 +1,7 @@
 //! The instructions that a machine executes, as values: a variant for each function of a shape, what
 //! it gives, and its name.
 //!
-//! The variants of a type stand in the order of its list, which has their names. Own: upstream has
-//! no instructions as values.
+//! A type's variants stand in the order of its list, which has their names. Own: upstream has none.
 #![tactic(auto)]
 
 mod load_store;

@@ -54,7 +54,6 @@ impl LoadOp {
         self.load_front(&memory[address..])
     }
 
-    /// Loads from the front of some bytes.
     #[inline(always)]
     fn load_front(self, bytes: &[u8]) -> Result<RawVal, TrapCode>
         ensures { result ≡ loaded_raw self bytes.now 0 }

@@ -11,8 +11,7 @@ macro_rules! names {
     };
 }
 
-/// What the function of an instruction's row gives for operands. An instruction on a lane has the
-/// lane among them.
+/// What the function of an instruction's row gives for operands: of one on a lane, the lane too.
 macro_rules! calls {
     (
         [$self:ident $operands:tt]

@@ -1,6 +1,5 @@
 //! The vector instructions as values, on vectors and raw values, with the loads and stores of
-//! vectors and of one lane. A kind is an instruction on one lane without the lane's index: what a
-//! name or a number alone tells.
+//! vectors and of one lane. A kind is an instruction on one lane without its index.
 ghost use Rattle.std.specs.Prelude.{◌≡◌, ◌+◌};
 ghost use Rattle.wasmi_access.specs.LoadStore.{IsStore};
 ghost use Rattle.wasmi_ops.specs.LaneOps.{extracted_raw, extract_op, replaced_vector, replace_op, loaded_lane, load_lane_op, stored_lane, store_lane_op};
@@ -563,10 +562,10 @@ macro_rules! lane_loads {
 
 impl LoadLaneOp {
     /// The vector with the lane loaded from `ptr + offset`.
-    pub fn load(self, memory: &[u8], ptr: u64, offset: u64, vector: V128) -> Result<V128, TrapCode>
-        ensures { result ≡ loaded_lane self vector memory.now (ptr + offset) }
+    pub fn load(self, memory: &[u8], ptr: u64, offset: u64, v: V128) -> Result<V128, TrapCode>
+        ensures { result ≡ loaded_lane self v memory.now (ptr + offset) }
     {
-        lane_loads!(calls! self(lane) (memory, ptr, offset, vector, lane))
+        lane_loads!(calls! self(lane) (memory, ptr, offset, v, lane))
     }
 }
 
@@ -609,16 +608,10 @@ macro_rules! lane_stores {
 
 impl StoreLaneOp {
     /// Stores the lane at `ptr + offset`.
-    pub fn store(
-        self,
-        memory: &mut [u8],
-        ptr: u64,
-        offset: u64,
-        vector: V128,
-    ) -> Result<(), TrapCode>
-        ensures { IsStore memory.old (ptr + offset) (stored_lane self vector) memory.new result }
+    pub fn store(self, memory: &mut [u8], ptr: u64, offset: u64, v: V128) -> Result<(), TrapCode>
+        ensures { IsStore memory.old (ptr + offset) (stored_lane self v) memory.new result }
     {
-        lane_stores!(calls! self(lane) (memory, ptr, offset, vector, lane))
+        lane_stores!(calls! self(lane) (memory, ptr, offset, v, lane))
     }
 }
 

@@ -1,5 +1,4 @@
 //! Conversions (`From`) into and from raw values, of integers, `bool`, floats and vectors.
-
 ghost use Rattle.std.specs.Prelude.{◌≡◌};
 ghost use Rattle.std.specs.Int.{w8, w16, w32, w64};
 ghost use Rattle.wasmi_raw.specs.RawVal.{raw_of, raw_of_vector, unsigned_in, signed_in, bool_in, vector_in};

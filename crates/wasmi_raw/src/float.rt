@@ -1,12 +1,9 @@
 //! Floats of 32 and 64 bits, of which only the bits are known.
-
 ghost use Rattle.std.specs.Prelude.{◌≡◌, ℕ};
 
 use std::marker::Model;
 
-/// The 32 bits of a float, which contracts see as a number.
-///
-/// Upstream: `wasmi_core::F32`.
+/// The 32 bits of a float, which contracts see as a number. Upstream: `wasmi_core::F32`.
 #[derive(Clone, Copy)]
 pub struct F32 {
     bits: u32,
@@ -36,9 +33,7 @@ impl F32 {
     }
 }
 
-/// The 64 bits of a float, which contracts see as a number.
-///
-/// Upstream: `wasmi_core::F64`.
+/// The 64 bits of a float, which contracts see as a number. Upstream: `wasmi_core::F64`.
 #[derive(Clone, Copy)]
 pub struct F64 {
     bits: u64,

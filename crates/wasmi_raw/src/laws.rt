@@ -1,5 +1,4 @@
 //! The law of a write and the read that follows it.
-
 ghost use Rattle.std.specs.Prelude.{◌≡◌};
 
 use crate::raw::{ReadAs, ReadBack, WriteAs};

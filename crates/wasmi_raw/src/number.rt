@@ -1,5 +1,4 @@
 //! The integer types, as contracts see them: the trait that has the numbers of each.
-
 ghost use Rattle.std.specs.Prelude.{ℤ, Bool};
 ghost use Rattle.std.specs.Int.{Width, w8, w16, w32, w64, w128};
 ghost use Rattle.wasmi_raw.specs.Number.{AreNumbers, NumberType};
@@ -55,8 +54,7 @@ mod sealed {
 /// An integer type: its width, its sign, and the numbers that its values stand for.
 ///
 /// The crate has no such trait. It has no function: contracts of conversions, loads, stores and
-/// shifts name its members. The ten integer types from 8 to 128 bits have it, and no other type
-/// can.
+/// shifts name its members. The ten integer types from 8 to 128 bits have it, and no other can.
 pub trait Number: sealed::Sealed {
     /// How many bits the type has.
     ghost width: { Width };

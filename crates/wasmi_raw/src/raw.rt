@@ -1,5 +1,4 @@
 //! Raw values, and the traits that say what it means to read and write one.
-
 ghost use Rattle.std.specs.Prelude.{◌≡◌};
 ghost use Rattle.wasmi_raw.specs.RawVal.{raw_of};
 

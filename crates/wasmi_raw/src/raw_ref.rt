@@ -1,6 +1,4 @@
-//! Raw references: what an element of a table holds, whatever its type, its conversions, and how it
-//! is read and written.
-
+//! Raw references: what a table's element holds, whatever its type, converted, read and written.
 ghost use Rattle.std.specs.Prelude.{◌≡◌, ◌↔◌, ℕ, IsTrue};
 ghost use Rattle.std.specs.Int.{w32};
 ghost use Rattle.wasmi_raw.specs.RawVal.{with_low, unsigned_in};
@@ -9,7 +7,6 @@ use crate::raw::{OneWord, RawVal, ReadAs, ReadBack, WriteAs};
 use std::marker::Model;
 
 /// A reference of 32 bits without a type, which contracts see as a number. The null reference is 0.
-///
 /// Upstream: `wasmi_core::RawRef`.
 #[derive(Clone, Copy, Debug, PartialEq, Eq, PartialOrd, Ord, Hash)]
 pub struct RawRef {
@@ -68,8 +65,7 @@ impl ReadAs<RawRef> for RawVal {
     ghost read = { unsigned_in w32 };
 
     fn read_as(&self) -> RawRef {
-        let bits: u32 = self.read_as();
-        RawRef { bits }
+        RawRef::from(u32::from(*self))
     }
 }
 

@@ -1,6 +1,5 @@
 //! Reading and writing a raw value, and what is read after a write: the implementations of the
 //! traits, type by type, except for references.
-
 ghost use Rattle.std.specs.Int.{w8, w16, w32, w64, cast_unsigned, from_bool};
 ghost use Rattle.std.specs.Int.NonZero.{non_zero_i8_get, non_zero_i16_get, non_zero_i32_get, non_zero_i64_get, non_zero_u8_get, non_zero_u16_get, non_zero_u32_get, non_zero_u64_get};
 ghost use Rattle.wasmi_raw.specs.RawVal.{unsigned_in, signed_in, bool_in, vector_in, with_low, raw_of_vector};
@@ -22,8 +21,7 @@ impl ReadAs<i8> for RawVal {
     ghost read = { signed_in w8 };
 
     fn read_as(&self) -> i8 {
-        let bits: u8 = self.read_as();
-        bits.cast_signed()
+        u8::from(*self).cast_signed()
     }
 }
 
@@ -31,8 +29,7 @@ impl ReadAs<i16> for RawVal {
     ghost read = { signed_in w16 };
 
     fn read_as(&self) -> i16 {
-        let bits: u16 = self.read_as();
-        bits.cast_signed()
+        u16::from(*self).cast_signed()
     }
 }
 
@@ -40,8 +37,7 @@ impl ReadAs<i32> for RawVal {
     ghost read = { signed_in w32 };
 
     fn read_as(&self) -> i32 {
-        let bits: u32 = self.read_as();
-        bits.cast_signed()
+        u32::from(*self).cast_signed()
     }
 }
 
@@ -49,8 +45,7 @@ impl ReadAs<i64> for RawVal {
     ghost read = { signed_in w64 };
 
     fn read_as(&self) -> i64 {
-        let bits: u64 = self.read_as();
-        bits.cast_signed()
+        u64::from(*self).cast_signed()
     }
 }
 

@@ -1,5 +1,4 @@
 //! The 128-bit value that vector instructions work on: its two words, and its number.
-
 ghost use Rattle.std.specs.Prelude.{◌≡◌, ℕ, ◌/◌, ◌%◌, ◌^◌, ◌<◌};
 ghost use Rattle.wasmi_raw.specs.RawVal.{vector_of};
 
@@ -54,9 +53,7 @@ impl From<u128> for V128 {
     ghost from_gives = { λ number vector. vector ≡ number };
 
     fn from(number: u128) -> V128 {
-        V128 {
-            low: (number & 0xffff_ffff_ffff_ffff) as u64,
-            high: (number >> 64) as u64,
-        }
+        let low = (number & 0xffff_ffff_ffff_ffff) as u64;
+        V128::from_word_pair(low, (number >> 64) as u64)
     }
 }

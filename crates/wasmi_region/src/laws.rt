@@ -1,5 +1,4 @@
-//! What holds of all tables on regions. These functions do nothing: each states a law as its
-//! contract.
+//! What holds of all tables on regions. Each function does nothing, and states a law.
 ghost use Rattle.wasmi_meter.specs.Limiter.{optional_rules};
 ghost use Rattle.wasmi_region.specs.Laws.{TableCreationsSucceed, TableGrowthsSucceed, CreationsAreTables, GrowthsAreTables};
 

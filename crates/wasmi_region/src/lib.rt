@@ -1,5 +1,4 @@
-//! Linear memories and tables that are the first bytes or elements of a region, which lies with the
-//! caller.
+//! Linear memories and tables that are the first bytes or elements of a region of the caller's.
 #![tactic(auto)]
 
 pub mod laws;

@@ -1,8 +1,6 @@
 //! Linear memories whose bytes are the first of a region; the rest of it is room to grow in place.
 //! The caller keeps a memory's type and its size in bytes, and passes them to each call with the
-//! region, or the memory's bytes alone.
-//!
-//! Own: upstream's memory borrows its static buffer for as long as it lives.
+//! region, or the memory's bytes alone. Own: upstream's memory borrows its buffer while it lives.
 ghost use Rattle.std.specs.Prelude.{◌≡◌, ◌≤◌, ◌+◌, ◌*◌, ◌/◌, length, drop, OnErr, IfOk, Some, MatchOption, true, false};
 ghost use Rattle.wasmi_meter.specs.Limiter.{optional_rules, lent_limiter, KeepsLoan};
 ghost use Rattle.wasmi_store.specs.Buffer.{Lent};
@@ -35,13 +33,6 @@ pub fn pages(ty: MemoryType, size: usize) -> u64
 
 /// Makes a memory of zeros at the front of a region, at the minimum of its type, and returns its
 /// size in bytes. It takes no fuel, and leaves the bytes past the minimum alone.
-///
-/// # Errors
-///
-/// In the order of the tests: `MinimumSizeOverflow` if the minimum has 2^64 bytes or more;
-/// `ResourceLimiterDeniedAllocation` if the limiter doesn't permit it; `InvalidStaticBufferSize` if
-/// the region is shorter than the minimum, of which the limiter is notified. After an error the
-/// bytes of the region are unchanged.
 pub fn make<L: ResourceLimiter>(
     ty: MemoryType,
     region: &mut [u8],
@@ -60,13 +51,8 @@ pub fn make<L: ResourceLimiter>(
     Ok(size)
 }
 
-/// Makes a memory as [`make`] does, at the front of a region whose bytes up to the minimum are zeros
-/// already, as fresh pages of the system are. It writes no byte: where they aren't zeros, the
-/// memory has what stands there.
-///
-/// # Errors
-///
-/// Those of [`make`].
+/// Makes a memory as [`make`] does, at the front of a region whose bytes up to the minimum are
+/// zeros already, as fresh pages are. It writes no byte: the memory has what stands there.
 pub fn make_zeroed<L: ResourceLimiter>(
     ty: MemoryType,
     region: &[u8],
@@ -74,8 +60,7 @@ pub fn make_zeroed<L: ResourceLimiter>(
 ) -> Result<usize, MemoryError>
     ensures loan { KeepsLoan limiter.old limiter.new }
     ensures made { MakesMemory (optional_rules L.rules) (Lent region.now) ty
-        (lent_limiter limiter.old) (made_in_zeros ty region.now result)
-        (lent_limiter limiter.new) }
+        (lent_limiter limiter.old) (made_in_zeros ty region.now result) (lent_limiter limiter.new) }
     ensures sized { IfOk result (λ size. IsSized ty size × (size ≤ length region.now)) }
 {
     let size = permitted_minimum(ty, limiter)?;
@@ -88,10 +73,6 @@ pub fn make_zeroed<L: ResourceLimiter>(
 /// Grows a memory of `size` bytes at the front of a region by `additional` pages of zeros, and
 /// returns the old size in pages; `size` becomes the new size in bytes. A growth by 0 pages changes
 /// nothing and asks no limiter.
-///
-/// # Errors
-///
-/// Those of [`wasmi_store::LinearMemory::grow`] on a lent region.
 pub fn grow<L: ResourceLimiter>(
     ty: MemoryType,
     size: &mut usize,
@@ -123,10 +104,6 @@ pub fn grow<L: ResourceLimiter>(
 
 /// Grows a memory as [`grow`] does, into bytes of the region that are zeros already, as fresh pages
 /// of the system are. It writes no byte: where they aren't zeros, the memory has what stands there.
-///
-/// # Errors
-///
-/// Those of [`grow`].
 #[tactic(auto, using(std::proofs::lemmas::Bool::Decides::nat_tests))]
 pub fn grow_zeroed<L: ResourceLimiter>(
     ty: MemoryType,
@@ -148,8 +125,7 @@ pub fn grow_zeroed<L: ResourceLimiter>(
     ensures within { size.new ≤ length region.now }
     ensures larger { size.old ≤ size.new }
     ensures len { length (zeroed region.now size.old size.new) ≡ length region.now }
-    ensures rest { drop size.new (zeroed region.now size.old size.new)
-        ≡ drop size.new region.now }
+    ensures rest { drop size.new (zeroed region.now size.old size.new) ≡ drop size.new region.now }
     ensures refused { OnErr result (zeroed region.now size.old size.new ≡ region.now) }
     ensures size { OnErr result (size.new ≡ size.old) }
 {
@@ -177,15 +153,10 @@ pub fn question(ty: MemoryType, size: usize, additional: u64) -> Option<(usize, 
         (λ asked. (in_bounds ty (size / page_bytes ty.page + additional) ≡ true)
         × (asked.0 ≡ size + additional * page_bytes ty.page) × (asked.1 ≡ maximum_bytes ty)) }
 {
-    let desired = ty.grown_size(size, additional)?;
-    Some((desired, ty.maximum_size()))
+    Some((ty.grown_size(size, additional)?, ty.maximum_size()))
 }
 
-/// Fills bytes of a memory.
-///
-/// # Errors
-///
-/// Those of [`wasmi_store::LinearMemory::fill`], which does the same.
+/// Fills bytes of a memory, as [`wasmi_store::LinearMemory::fill`] does.
 pub fn fill(
     bytes: &mut [u8],
     dst: u64,
@@ -199,11 +170,7 @@ pub fn fill(
     fill_items(bytes, dst, value, len, OUTSIDE, fuel)
 }
 
-/// Copies bytes of a memory.
-///
-/// # Errors
-///
-/// Those of [`wasmi_store::LinearMemory::copy_within`], which does the same.
+/// Copies bytes of a memory, as [`wasmi_store::LinearMemory::copy_within`] does.
 pub fn copy_within(
     bytes: &mut [u8],
     dst: u64,
@@ -217,11 +184,7 @@ pub fn copy_within(
     copy_items_within(bytes, dst, src, len, OUTSIDE, fuel)
 }
 
-/// Copies bytes to a memory.
-///
-/// # Errors
-///
-/// Those of [`wasmi_store::LinearMemory::copy`], which does the same.
+/// Copies bytes to a memory, as [`wasmi_store::LinearMemory::copy`] does.
 pub fn copy(
     bytes: &mut [u8],
     source: &[u8],
@@ -236,11 +199,7 @@ pub fn copy(
     copy_items(bytes, dst, source, src, len, OUTSIDE, fuel)
 }
 
-/// Copies a segment to a memory.
-///
-/// # Errors
-///
-/// Those of [`wasmi_store::LinearMemory::init`], which does the same.
+/// Copies a segment to a memory, as [`wasmi_store::LinearMemory::init`] does.
 pub fn init(
     bytes: &mut [u8],
     segment: &[u8],

@@ -1,9 +1,7 @@
 //! Tables whose elements are the first of a region of references. The caller keeps a table's type
 //! and its size, and passes them to each call with the region or with the elements; the rest of the
 //! region is room to grow in place. What a growth asks a limiter. A reference is a number, whose
-//! type is the caller's matter.
-//!
-//! Own: upstream's table owns its elements.
+//! type is the caller's matter. Own: upstream's table owns its elements.
 ghost use Rattle.std.specs.Prelude.{◌≡◌, ◌≤◌, ◌<◌, ◌+◌, length, drop, OnErr, IfOk, Some, MatchOption, true, false};
 ghost use Rattle.wasmi_meter.specs.Limiter.{optional_rules, lent_limiter, KeepsLoan};
 ghost use Rattle.wasmi_store.specs.Growth.{metered_value, metered};
@@ -26,13 +24,6 @@ pub fn is_sized(ty: TableType, size: usize) -> bool
 
 /// Makes a table with one reference in each place at the front of a region, at the minimum of its
 /// type, and returns its size. It takes no fuel, and leaves the elements past the minimum alone.
-///
-/// # Errors
-///
-/// In the order of the tests: `MinimumSizeOverflow` if `usize` has 32 bits and the minimum more;
-/// `ResourceLimiterDeniedAllocation` if the limiter doesn't permit it; `OutOfSystemMemory` if the
-/// region is shorter than the minimum, of which the limiter is notified. After an error the region
-/// is unchanged.
 pub fn make<L: ResourceLimiter>(
     ty: TableType,
     region: &mut [u32],
@@ -63,11 +54,6 @@ pub fn make<L: ResourceLimiter>(
 /// Grows a table of `size` elements at the front of a region by `delta`, each the given reference,
 /// and returns the old size; `size` becomes the new one. A growth by 0 changes nothing and asks no
 /// limiter. What lies past the table is unchanged.
-///
-/// # Errors
-///
-/// Those of [`wasmi_store::Table::grow_raw`], of which `OutOfSystemMemory` comes only if the region
-/// is shorter than the new size. After an error the whole region is unchanged.
 pub fn grow<L: ResourceLimiter>(
     ty: TableType,
     size: &mut usize,
@@ -118,42 +104,27 @@ pub fn grow<L: ResourceLimiter>(
 /// What a growth by `delta` elements asks a limiter: the new size, and the maximum. It is `None` if
 /// there would be as many elements as indices; then no limiter is asked.
 pub fn question(ty: TableType, size: usize, delta: u64) -> Option<(usize, Option<usize>)>
-    ensures { MatchOption result
-        (is_indexable ty (size + delta) ≡ false)
+    ensures { MatchOption result (is_indexable ty (size + delta) ≡ false)
         (λ asked. (is_indexable ty (size + delta) ≡ true)
         × (asked.0 ≡ size + delta) × (asked.1 ≡ ty.maximum)) }
 {
-    let desired = ty.grown_size(size as u64, delta)?;
-    Some((desired, ty.maximum_size()))
+    Some((ty.grown_size(size as u64, delta)?, ty.maximum_size()))
 }
 
 /// Sets the element at an index.
-///
-/// # Errors
-///
-/// `SetOutOfBounds` past the end.
-pub fn set(
-    ty: TableType,
-    elements: &mut [u32],
-    index: u64,
-    reference: u32,
-) -> Result<(), TableError>
-    ensures { SetsTableRaw index reference (table_of ty elements.old) result
+pub fn set(ty: TableType, elements: &mut [u32], index: u64, value: u32) -> Result<(), TableError>
+    ensures { SetsTableRaw index value (table_of ty elements.old) result
         (table_of ty elements.new) }
 {
     let index = usize::try_from(index).map_err(|_| TableError::SetOutOfBounds)?;
     if index >= elements.len() {
         return Err(TableError::SetOutOfBounds);
     }
-    write_range(elements, index, &[reference]);
+    write_range(elements, index, &[value]);
     Ok(())
 }
 
 /// Fills `len` elements from `dst` on with a reference.
-///
-/// # Errors
-///
-/// Those of [`wasmi_store::Table::fill_raw`].
 pub fn fill(
     ty: TableType,
     elements: &mut [u32],
@@ -171,10 +142,6 @@ pub fn fill(
 }
 
 /// Copies `len` elements from `src` on over those from `dst` on.
-///
-/// # Errors
-///
-/// Those of [`wasmi_store::Table::copy_within`].
 pub fn copy_within(
     ty: TableType,
     elements: &mut [u32],
@@ -187,15 +154,10 @@ pub fn copy_within(
         (metered (table_of ty elements.old) (Some fuel.old)) result
         (metered (table_of ty elements.new) (Some fuel.new)) }
 {
-    let outside = TableError::CopyOutOfBounds;
-    copy_items_within(elements, dst, src, len, outside, fuel)
+    copy_items_within(elements, dst, src, len, TableError::CopyOutOfBounds, fuel)
 }
 
 /// Copies `len` items of a table, from `src` on, over the elements of another table from `dst` on.
-///
-/// # Errors
-///
-/// Those of [`wasmi_store::Table::copy`].
 pub fn copy(
     ty: TableType,
     elements: &mut [u32],
@@ -216,10 +178,6 @@ pub fn copy(
 }
 
 /// Copies `len` items of the type of a table's elements, from `src` on, over those from `dst` on.
-///
-/// # Errors
-///
-/// Those of [`wasmi_store::Table::init`].
 pub fn init(
     ty: TableType,
     elements: &mut [u32],

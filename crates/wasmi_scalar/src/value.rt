@@ -1,7 +1,6 @@
 //! The traits of the integer types, with their implementations: the operations, the unsigned type
 //! of the same width, and the extension by the sign. Upstream: the module `value`, private there.
 //! Core specification: integer operations, under numerics.
-
 ghost use Rattle.std.specs.Prelude.{◌≡◌, false, refl, unsigned_abs};
 ghost use Rattle.std.specs.Int.{int_wrap, w64};
 ghost use Rattle.wasmi_scalar.specs.Numerics.{GivesNumber, amount_modulo, idiv_s, idiv_u, irem_s, irem_u, ishl, ishr_s, ishr_u, irotl, irotr, iclz, ictz, ipopcnt, ieqz};

@@ -2,8 +2,7 @@
 //!
 //! Each function is the instruction of its name: `i32_add` is `i32.add`, and `bitand`, `bitor` and
 //! `bitxor` are `and`, `or` and `xor`. Core specification: numeric instructions; of `i64_add128`,
-//! `i64_sub128`, `i64_mul_wide_s` and `i64_mul_wide_u`: the wide-arithmetic proposal. Upstream:
-//! `wasmi_core::wasm`.
+//! `i64_sub128` and `i64_mul_wide_*`: the wide-arithmetic proposal. Upstream: `wasmi_core::wasm`.
 //!
 //! Divisions and remainders alone have errors: `IntegerDivisionByZero` if the divisor is 0, and those
 //! of `div_s` then `IntegerOverflow` for the least number by -1.

@@ -1,11 +1,9 @@
--- The outcome of a replay: the whole text that is printed of it, with what is held, the errors of reading, and the
--- status by which a replay ends.
-use Rattle.std.specs.Prelude.{ℕ, Result, Ok, Err, ◌<◌, ⊤, List, Option, None, Some, IfSome, length, ◌≡◌, ◌≤◌, ◌⊎◌, [], ◌++◌, codes, flat_map}
+-- The outcome of a replay: the text that is printed of it, with what is held, the errors of reading, and its status.
+use Rattle.std.specs.Prelude.{ℕ, Result, Ok, Err, ◌<◌, ⊤, List, Option, None, Some, IfSome, length, ◌≡◌, ◌≤◌, ◌⊎◌, [], ◌++◌, codes, flat_map, decimal}
 use Rattle.wasmi_script.specs.declared.{error.ReplayError.ReplayError, replaying.Status.Status, replaying.Held.Held, printing.Replayed.Replayed}
 use Rattle.wasmi_script.specs.declared.error.ReplayError.TheVariants.{Parse, TooLong, ReadFault}
 use Rattle.wasmi_script.specs.declared.replaying.Status.TheVariants.{Answered, BadScript, OutOfMemory, Fault}
 use Rattle.std.specs.Io.KnownBytes.{Appends}
-use Rattle.std.specs.Fmt.{decimal}
 use Rattle.std.specs.List.{zip, enumerate_from}
 use Rattle.wasmi_meter.specs.declared.limiter.Kind.TheVariants.{Bytes, Elements}
 use Rattle.wasmi_machine.specs.declared.{calls.Call.Call, calls.Reply.Reply}

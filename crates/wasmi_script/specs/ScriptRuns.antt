@@ -47,8 +47,7 @@ IsReplayOnOne (Some (Lines.Tenants line)) header calls ran = ⊥
 abbrev pub new_pool : TenantsLine → State → PoolValue
 new_pool line start = record { caps = line.caps; machines = replicate line.count (Some start) }
 
--- The parts are run one after another, each in one run of its tenant. The replies are those to the first part, and then
--- those to the later ones.
+-- the parts are run one after another, each in one run of its tenant, and the replies are those to the parts in turn
 abbrev pub AnswersParts : PoolValue → List TenantRun → List Reply → PoolValue → Type 0
 AnswersParts pool [] replies pool' = (replies ≡ []) × (pool' ≡ pool)
 AnswersParts pool (part ∷ parts) replies pool' =

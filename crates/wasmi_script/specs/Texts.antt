@@ -1,6 +1,5 @@
 -- The text of a reply, of its head and of its bytes, the text of a wording and its numbers, and the text of an error.
-use Rattle.std.specs.Prelude.{ℕ, List, [], ◌++◌, codes, flat_map, Option, None, Some}
-use Rattle.std.specs.Fmt.{decimal}
+use Rattle.std.specs.Prelude.{ℕ, List, [], ◌++◌, codes, flat_map, Option, None, Some, decimal}
 use Rattle.wasmi_types.specs.Trap.{code_message}
 use Rattle.wasmi_meter.specs.Texts.{fuel_error_text, memory_error_text, table_error_text}
 use Rattle.wasmi_typed.specs.Global.{global_error_text}

@@ -87,7 +87,7 @@ pub fn print_lines<W: Output>(writer: &mut W, calls: &[Call], replies: &[Reply])
 
 /// Prints a line for each call and what is held, or why the script isn't run.
 fn print_outcome<W: io::Write>(
-    printer: &mut Printer<'_, W>,
+    printer: &mut Printer<W>,
     outcome: &Result<Replayed, ReplayError>,
 ) -> fmt::Result
     ensures { PrintsText W.contents (outcome_text outcome.now) printer.old result printer.new }
@@ -104,7 +104,7 @@ fn print_outcome<W: io::Write>(
 
 /// A line for each call, with its reply.
 fn print_replies<W: io::Write>(
-    printer: &mut Printer<'_, W>,
+    printer: &mut Printer<W>,
     calls: &[Call],
     replies: &[Reply],
 ) -> fmt::Result
@@ -118,11 +118,7 @@ fn print_replies<W: io::Write>(
 }
 
 /// A call's reply. The numbers of bytes are printed one after the other, since they may be many.
-fn print_reply<W: io::Write>(
-    printer: &mut Printer<'_, W>,
-    call: &Call,
-    reply: &Reply,
-) -> fmt::Result
+fn print_reply<W: io::Write>(printer: &mut Printer<W>, call: &Call, reply: &Reply) -> fmt::Result
     ensures { PrintsText W.contents (line (reply_text call.now reply.now)) printer.old result
         printer.new }
 {
@@ -145,7 +141,7 @@ pub fn bytes_of(reply: &Reply) -> &[u8]
 
 /// What a quota holds, or what each tenant of a pool holds.
 #[tactic(auto, using(crate::proofs::LengthLemmas::held_short))]
-fn print_held<W: io::Write>(printer: &mut Printer<'_, W>, held: &Held) -> fmt::Result
+fn print_held<W: io::Write>(printer: &mut Printer<W>, held: &Held) -> fmt::Result
     ensures { PrintsText W.contents (held_text held.now) printer.old result printer.new }
 {
     match held {
@@ -158,7 +154,7 @@ fn print_held<W: io::Write>(printer: &mut Printer<'_, W>, held: &Held) -> fmt::R
 }
 
 /// What each tenant of a pool holds.
-fn print_tenants<W: io::Write>(printer: &mut Printer<'_, W>, pool: &Pool) -> fmt::Result
+fn print_tenants<W: io::Write>(printer: &mut Printer<W>, pool: &Pool) -> fmt::Result
     ensures { PrintsText W.contents (tenants_text pool.now.machines) printer.old result
         printer.new }
 {
@@ -169,11 +165,7 @@ fn print_tenants<W: io::Write>(printer: &mut Printer<'_, W>, pool: &Pool) -> fmt
 }
 
 /// What the tenant of an index holds, if there is one.
-fn print_tenant<W: io::Write>(
-    printer: &mut Printer<'_, W>,
-    pool: &Pool,
-    index: usize,
-) -> fmt::Result
+fn print_tenant<W: io::Write>(printer: &mut Printer<W>, pool: &Pool, index: usize) -> fmt::Result
     ensures { PrintsText W.contents (tenant_line index (machine_of pool.now index)) printer.old
         result printer.new }
 {

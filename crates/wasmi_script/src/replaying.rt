@@ -102,8 +102,7 @@ impl Status {
 /// Reads the script, runs it and prints its replies, or prints why it isn't run. A line that can't
 /// be printed, or a flush that fails, makes the status `Fault`; what went out before it stays.
 pub fn replay<R: Input, W: Output>(alloc: Global, reader: &mut R, writer: &mut W) -> Status
-    ensures ends { Replays
-        (IsOutcomeOfReader (R.remaining reader.old) (R.has_failed reader.new))
+    ensures ends { Replays (IsOutcomeOfReader (R.remaining reader.old) (R.has_failed reader.new))
         (W.contents writer.old) (W.contents writer.new) (W.is_flushed writer.new) result }
 {
     let outcome = outcome_of_reader(alloc, reader);
@@ -358,8 +357,7 @@ fn run_answered(
     Ok(Ran { replies, held })
 }
 
-/// Runs the script's parts, each by its tenant, on a pool of new machines with the script's meter and
-/// its reserved slots.
+/// Runs the script's parts, each by its tenant, on a pool of new machines with its meter and slots.
 fn run_pool(alloc: Global, script: &Script, line: TenantsLine) -> Result<Ran, AllocError>
     ensures { IfOk result (IsPoolReplay line script.now) }
 {

@@ -13,12 +13,10 @@ ghost use Rattle.wasmi_simd.specs.WideningTable as vector;
 /// `first + i`, wrapped to the wide width. `A` is the integer as which a narrow lane is read.
 pub fn lanes_of_halves<A>()
     ensures unary { (narrow wide : Width) (first : ℕ) (read : ℕ → A) (row : A → ℕ) (v i : ℕ)
-        → i < lane_count wide
-        → lane wide (half_unary narrow wide first read row v) i
+        → i < lane_count wide → lane wide (half_unary narrow wide first read row v) i
         ≡ row (read (lane narrow v (first + i))) % 2 ^ bits wide }
     ensures binary { (narrow wide : Width) (first : ℕ) (read : ℕ → A) (row : A → A → ℕ) (a b i : ℕ)
-        → i < lane_count wide
-        → lane wide (half_binary narrow wide first read row a b) i
+        → i < lane_count wide → lane wide (half_binary narrow wide first read row a b) i
         ≡ row (read (lane narrow a (first + i)))
         (read (lane narrow b (first + i))) % 2 ^ bits wide }
 {}
@@ -38,8 +36,7 @@ pub fn extended_lanes()
         → lane wide (vector.extend_high_u narrow wide v) i ≡ lane narrow v (lane_count wide + i) }
 {}
 
-/// A number that is wrapped to a width is below 2 to the power of the width, and one in the signed
-/// range is read as itself.
+/// A number wrapped to a width is below 2 to its power; one in the signed range is read as itself.
 pub fn wrapped_numbers()
     ensures below { (w : Width) (z : ℤ) → wrap w z < 2 ^ bits w }
     ensures signed { (w : Width) (z : ℤ) → FitsSigned w z → signed w (wrap w z) ≡ z }
@@ -49,20 +46,16 @@ pub fn wrapped_numbers()
 /// and 2i + 1, wrapped to the wide width. `A` is the integer as which a narrow lane is read.
 pub fn pairwise_lanes<A>()
     ensures unary { (narrow wide : Width) (read : ℕ → A) (row : A → A → ℕ) (v i : ℕ)
-        → i < lane_count wide
-        → lane wide (pairwise_unary narrow wide read row v) i
-        ≡ row (read (lane narrow v (2 * i)))
-        (read (lane narrow v (2 * i + 1))) % 2 ^ bits wide }
+        → i < lane_count wide → lane wide (pairwise_unary narrow wide read row v) i
+        ≡ row (read (lane narrow v (2 * i))) (read (lane narrow v (2 * i + 1))) % 2 ^ bits wide }
     ensures binary { (narrow wide : Width) (read : ℕ → A) (row : A → A → A → A → ℕ) (a b i : ℕ)
-        → i < lane_count wide
-        → lane wide (pairwise_binary narrow wide read row a b) i
+        → i < lane_count wide → lane wide (pairwise_binary narrow wide read row a b) i
         ≡ row (read (lane narrow a (2 * i))) (read (lane narrow a (2 * i + 1)))
         (read (lane narrow b (2 * i))) (read (lane narrow b (2 * i + 1))) % 2 ^ bits wide }
 {}
 
-/// The lanes of a vector that is made of the wide lanes of two vectors are the rows of the first
-/// one's, then those of the second one's, wrapped to the narrow width. `A` is the integer as which
-/// a wide lane is read.
+/// The lanes of a vector made of two vectors' wide lanes are the rows of the first one's, then the
+/// second's, wrapped to the narrow width. `A` is the integer as which a wide lane is read.
 pub fn lanes_of_wide_lanes<A>()
     ensures low { (wide narrow : Width) (read : ℕ → A) (row : A → ℕ) (low high i : ℕ)
         → i < lane_count wide → i < lane_count narrow

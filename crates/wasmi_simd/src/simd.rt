@@ -7,7 +7,6 @@
 //! `specs/WideningTable.antt`, and for the shifts in `VectorTable` of `wasmi_lanewise`. Upstream:
 //! `wasmi_core::simd`. Private functions here make an instruction for each lane type; how such a
 //! type takes its lanes at twice their width is in `wide`.
-
 ghost use Rattle.std.specs.Prelude.{◌≡◌, ℕ, ◌*◌, ◌^◌, not, nat_eq, nat_le};
 ghost use Rattle.wasmi_types.specs.Numbers.{w8, w16, w32, w64, bits};
 ghost use Rattle.wasmi_lanes.specs.Words.{field, lanes_in_word};
@@ -238,9 +237,8 @@ fn from_low_high<W: Lanes, L: FromWide<W>, F: Fn(W::Item) -> L::Item>(
     f: F,
 ) -> V128
     requires callable { F.IsAlwaysCallable f }
-    ensures lanes { (row : W.Item → ℕ)
-        → ((x : W.Item) (z : L.Item) → W.Item.Fits x → L.Item.Fits z → F.post f x z
-        → L.Item.image z ≡ row x)
+    ensures lanes { (row : W.Item → ℕ) → ((x : W.Item) (z : L.Item)
+        → W.Item.Fits x → L.Item.Fits z → F.post f x z → L.Item.image z ≡ row x)
         → result ≡ vector.from_low_high W.Item.width L.Item.width W.Item.read row low high }
 {
     L::from_low_high(W::from_v128(low), W::from_v128(high), f).into_v128()
@@ -614,8 +612,7 @@ fn no_zero<T: WordLane>(v: V128) -> bool
 // The lowest lane that is 0 borrows, and gets a highest bit; the lanes above don't matter then.
 #[inline(always)]
 fn no_zero_in_word<T: WordLane>(word: u64) -> bool
-    ensures { result
-        ≡ holds_below (lanes_in_word T.width)
+    ensures { result ≡ holds_below (lanes_in_word T.width)
         (λ i. not (nat_eq (field (bits T.width * i) (bits T.width) word) 0)) }
 {
     word.wrapping_sub(T::ONES) & !word & T::TOPS == 0

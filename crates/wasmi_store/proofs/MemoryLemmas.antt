@@ -1,13 +1,13 @@
 -- The making and the growth of a memory, by what was tested on the way; and sizes in bytes and in pages after a growth
 -- or a write.
 use Rattle.std.proofs.Common.{◌≡◌, ℕ, ◌<◌, ◌+◌, ◌-◌, ◌*◌, ◌/◌, ◌%◌, ◌^◌, Bool, true, false, Option, Some, None, List, ◌++◌, length, replicate, Ok, Err, refl, sym, arith}
-use Rattle.wasmi_store.proofs.Common.{cond-true, cond-false, if◌then◌else◌, nat_lt, refill, length_refill, length-replicate, MemoryError, Question, Answer, Rules, Meter, due, copy_cost, Permits, BufferValue, zeros_in, fits_room, MemoryTypeValue, page_bytes, minimum_bytes, maximum_bytes, in_bounds, MemoryValue, pages_of, new_memory, size_question, MakesMemory, PermitsMinimum, IsPermitted, ReachesCharge, IsAsked, Growth}
+use Rattle.wasmi_store.proofs.Common.{cond-true, cond-false, if◌then◌else◌, nat_lt, refill, length_refill, length-replicate, MemoryError, Question, Answer, Rules, Meter, due, copy_cost, Permits, BufferValue, zeros_in, fits_room, MemoryTypeValue, page_bytes, minimum_bytes, maximum_bytes, in_bounds, MemoryValue, pages_of, new_memory, size_question, MakesMemory, PermitsMinimum, IsPermitted, ReachesCharge, IsAsked}
 use Rattle.std.proofs.lemmas.List.{length-append}
 use Rattle.std.proofs.lemmas.Option.{cond_some}
 use Rattle.wasmi_meter.specs.declared.error.MemoryError.TheVariants.{ResourceLimiterDeniedAllocation, MinimumSizeOverflow, InvalidStaticBufferSize}
 use Rattle.wasmi_meter.specs.declared.limiter.Kind.TheVariants.{Bytes}
 use Rattle.wasmi_store.specs.Buffer.{Room}
-use Rattle.wasmi_store.specs.Memory.{IsSized, creation_of, growth_of}
+use Rattle.wasmi_store.specs.Memory.{IsSized, creation_of, growth_of, memory_growth}
 use Rattle.wasmi_store.specs.declared.memory.ty.PageSize.{PageSize}
 use Rattle.wasmi_store.specs.declared.memory.ty.PageSize.TheVariants.{Byte, Wasm}
 use Rattle.wasmi_store.proofs.GrowthLemmas as any
@@ -93,10 +93,6 @@ module _ {S : Type 0} (rules : Rules S) (room : Room) (ty : MemoryTypeValue) (l 
   making_reaches holds = record { permits = making_permitted; late = cond-true _ _ _ (rw permitted.0 at holds) }
 
 -- ---- growths
-
--- the growth of a memory by so many pages
-abbrev pub memory_growth : ℕ → MemoryValue → Growth MemoryValue MemoryError
-memory_growth pages x = record { amount = pages; size = pages_of x; request = growth_of x pages }
 
 -- a memory's growth within the bounds asks for its sizes
 pub growth_asked : (x : MemoryValue) (pages : ℕ) {size desired : ℕ} {maximum : Option ℕ}

@@ -1,11 +1,11 @@
 -- The making and the growth of a table, by what was tested on the way, and the sizes and types of tables.
 use Rattle.std.proofs.Common.{◌≡◌, ℕ, ◌+◌, true, Option, Some, None, Result, Ok, List, ◌++◌, length, replicate, refl, ap, arith, length-append}
-use Rattle.wasmi_store.proofs.Common.{cond-true, length-replicate, CustomFuelCosts, TableError, GrowOutOfBounds, Question, Answer, Rules, Meter, due, TableTypeValue, is_indexable, is_within_maximum, same_type, TableValue, size_of, element_price, GrowsTableCharging, IsAsked, Growth, metered_value}
+use Rattle.wasmi_store.proofs.Common.{cond-true, length-replicate, CustomFuelCosts, TableError, GrowOutOfBounds, Question, Answer, Rules, Meter, due, TableTypeValue, is_indexable, is_within_maximum, same_type, TableValue, size_of, element_price, GrowsTableCharging, IsAsked, metered_value}
 use Rattle.wasmi_types.specs.declared.value.RefType.{RefType}
 use Rattle.wasmi_types.specs.declared.value.RefType.TheVariants.{Func, Extern}
 use Rattle.wasmi_typed.specs.declared.typed_ref.TypedRawRef.{TypedRawRef}
 use Rattle.wasmi_meter.specs.declared.limiter.Kind.TheVariants.{Elements}
-use Rattle.wasmi_store.specs.Table.{IsSized, creation_of, growth_of}
+use Rattle.wasmi_store.specs.Table.{IsSized, creation_of, growth_of, table_growth}
 use Rattle.wasmi_store.proofs.GrowthLemmas.{permitted_by, growing, PermitsGrowth, on_test_too}
 use Rattle.wasmi_store.proofs.GrowthLemmas as any
 
@@ -36,10 +36,6 @@ making_asked ty init same size sized maximum most =
     record { early = cond-true _ _ _ same; question_is = rw (sized, most) refl }
 
 -- ---- growths
-
--- the growth of a table by n elements
-abbrev pub table_growth : ℕ → ℕ → TableValue → Growth TableValue TableError
-table_growth n reference x = record { amount = n; size = size_of x; request = growth_of x n reference }
 
 module _ (x : TableValue) (n reference : ℕ) {size desired : ℕ} {maximum : Option ℕ} (sized : size ≡ size_of x)
     (found : (is_indexable x.ty (size + n) ≡ true) × (desired ≡ size + n)) (most : maximum ≡ x.ty.maximum) where

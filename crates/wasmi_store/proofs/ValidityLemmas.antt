@@ -7,11 +7,12 @@ use Rattle.wasmi_typed.specs.declared.typed_ref.TypedRawRef.{TypedRawRef}
 use Rattle.wasmi_store.specs.Buffer.{Room}
 use Rattle.wasmi_store.specs.declared.memory.ty.PageSize.{PageSize}
 use Rattle.wasmi_store.specs.declared.memory.ty.PageSize.TheVariants.{Byte, Wasm}
+use Rattle.wasmi_store.specs.Memory.{memory_growth}
 use Rattle.wasmi_store.specs.Memory as memory
+use Rattle.wasmi_store.specs.Table.{table_growth}
 use Rattle.wasmi_store.specs.Table as table
 use Rattle.wasmi_store.proofs.GrowthLemmas.{on_test}
-use Rattle.wasmi_store.proofs.MemoryLemmas.{memory_growth, sized_grown}
-use Rattle.wasmi_store.proofs.TableLemmas.{table_growth}
+use Rattle.wasmi_store.proofs.MemoryLemmas.{sized_grown}
 
 -- for the validity of what is made: the attempt that makes it was met
 made_met : {T E S : Type 0} (rules : Rules S) (e : Request (Unit {0}) E) (made x : T) (l l' : S)

@@ -16,7 +16,7 @@ use Rattle.wasmi_meter.specs.Limiter.{MemoryFailure, Question, Rules}
 use Rattle.wasmi_meter.specs.Meter.{copy_cost}
 use Rattle.wasmi_meter.specs.Attempt.{MeteredValue, Request}
 use Rattle.wasmi_store.specs.Buffer.{BufferValue, Room, Owned, fits_room, LacksMemory, zeros_in, with_zeros}
-use Rattle.wasmi_store.specs.Growth.{WithCharge, Makes, Grows}
+use Rattle.wasmi_store.specs.Growth.{WithCharge, Makes, Growth, Grows}
 use Rattle.wasmi_store.specs.Write.{filled, copied, item_price, MeteredWrite, WritesCharging}
 
 -- an optional maximum is no looser than another
@@ -171,12 +171,14 @@ PermitsMinimum rules ty l (Ok size) l' = (size ≡ minimum_bytes ty) × (nat_lt 
     × rules.asked l (creation_of Owned ty).question (Ok true) l'
 PermitsMinimum rules ty l (Err error) l' = (room : Room) → MakesMemory rules room ty l (Err error) l'
 
+-- the growth of a memory by so many pages
+abbrev pub memory_growth : ℕ → MemoryValue → Growth MemoryValue MemoryError
+memory_growth pages x = record { amount = pages; size = pages_of x; request = growth_of x pages }
+
 -- a memory grows by so many pages, with this charge; it returns the old size in pages
 abbrev pub GrowsMemoryCharging : {S : Type 0} → Rules S → ℕ → MeteredValue MemoryValue S → Result ℕ MemoryError → ℕ
     → MeteredValue MemoryValue S → Type 0
-GrowsMemoryCharging rules pages s result charge s' =
-    Grows rules (record { amount = pages; size = pages_of s.value; request = growth_of s.value pages }) s result charge
-    s'
+GrowsMemoryCharging rules pages s result charge s' = Grows rules (memory_growth pages s.value) s result charge s'
 
 -- a memory grows by so many pages; it returns the old size in pages
 abbrev pub GrowsMemory : {S : Type 0} → Rules S → ℕ → MeteredValue MemoryValue S → Result ℕ MemoryError

@@ -14,7 +14,7 @@ use Rattle.wasmi_meter.specs.declared.limiter.Kind.TheVariants.{Elements}
 use Rattle.wasmi_meter.specs.Limiter.{TableFailure, Rules}
 use Rattle.wasmi_meter.specs.Meter.{copy_cost}
 use Rattle.wasmi_meter.specs.Attempt.{MeteredValue, Request}
-use Rattle.wasmi_store.specs.Growth.{WithCharge, Makes, Grows}
+use Rattle.wasmi_store.specs.Growth.{WithCharge, Makes, Growth, Grows}
 use Rattle.wasmi_store.specs.Write.{filled, copied, MeteredWrite, WritesCharging}
 use Rattle.wasmi_store.specs.Segment.{SegmentValue}
 
@@ -137,12 +137,15 @@ abbrev pub MakesTable : {S : Type 0} → Rules S → TableTypeValue → TypedRaw
     → Type 0
 MakesTable rules ty init l result l' = Makes rules (creation_of ty init.ty) (new_table ty init.raw) l result l'
 
+-- the growth of a table by n elements
+abbrev pub table_growth : ℕ → ℕ → TableValue → Growth TableValue TableError
+table_growth n reference x = record { amount = n; size = size_of x; request = growth_of x n reference }
+
 -- a table grows by n elements, with this charge; it returns the old size
 abbrev pub GrowsTableRawCharging : {S : Type 0} → Rules S → ℕ → ℕ → MeteredValue TableValue S → Result ℕ TableError → ℕ
     → MeteredValue TableValue S → Type 0
 GrowsTableRawCharging rules n reference s result charge s' =
-    Grows rules (record { amount = n; size = size_of s.value; request = growth_of s.value n reference }) s result charge
-    s'
+    Grows rules (table_growth n reference s.value) s result charge s'
 
 -- a growth by a reference that has a type, with this charge: the type is tested first, also for no element, and where
 -- it is another, nothing is touched

@@ -43,9 +43,8 @@ pub fn fill_items<T: Copy + ValueSize, E: GrowthError>(
     Ok(())
 }
 
-/// Copies `len` items from `src` on over those from `dst` on. If the ranges overlap, the old items
-/// are copied (core specification, memory.copy, table.copy). `outside` is the error if a range ends
-/// past the list.
+/// Copies `len` items from `src` on over those from `dst` on: the old ones if they overlap (core
+/// specification, memory.copy, table.copy). `outside` is the error if a range ends past the list.
 pub fn copy_items_within<T: Chunk + ValueSize, E: GrowthError>(
     items: &mut [T],
     dst: u64,
@@ -70,8 +69,7 @@ pub fn copy_items_within<T: Chunk + ValueSize, E: GrowthError>(
 }
 
 /// Copies `len` items of a source, from `src` on, over those from `dst` on (core specification,
-/// memory.copy and table.copy of two, memory.init). `outside` is the error if a range ends past its
-/// list.
+/// memory.copy, table.copy, memory.init). `outside` is the error if a range ends past its list.
 pub fn copy_items<T: Copy + ValueSize, E: GrowthError>(
     items: &mut [T],
     dst: u64,

@@ -1,7 +1,6 @@
 //! What every creation and growth does with its limiter's answers and its meter, whatever it is
-//! that grows; and what making and growing a memory decides, wherever its bytes lie.
-//!
-//! Own: upstream writes these steps in each function that grows something.
+//! that grows; and what making and growing a memory decides, wherever its bytes lie. Own: upstream
+//! writes these steps in each function that grows something.
 ghost use Rattle.std.specs.Prelude.{◌≡◌, ◌-◌, ◌<◌, ℕ, Ok, Err, OnOk, IfOk, IfErr, true};
 ghost use Rattle.wasmi_meter.specs.declared.error.MemoryError.{MemoryError};
 ghost use Rattle.wasmi_meter.specs.declared.error.TableError.{TableError};
@@ -28,18 +27,14 @@ pub const TABLE_DENIED: TableError = TableError::ResourceLimiterDeniedAllocation
 ///
 /// # Errors
 ///
-/// `denial` if the limiter says no; `refusal` if it returns an error.
-pub fn permission<E: Drop>(
-    answer: Result<bool, LimiterError>,
-    denial: E,
-    refusal: E,
-) -> Result<(), E>
-    ensures { Permits denial refusal answer result }
+/// `denial` if the limiter says no; `error` if it returns an error.
+pub fn permission<E: Drop>(answer: Result<bool, LimiterError>, denial: E, error: E) -> Result<(), E>
+    ensures { Permits denial error answer result }
 {
     match answer {
         Ok(true) => Ok(()),
         Ok(false) => Err(denial),
-        Err(_) => Err(refusal),
+        Err(_) => Err(error),
     }
 }
 
@@ -55,20 +50,14 @@ pub trait GrowthError: Drop {
     fn out_of_fuel(required_fuel: u64) -> Self
         ensures { result ≡ unpaid required_fuel };
 
-    /// Notifies the limiter, if there is one, that a growth which it permitted failed with this
-    /// error.
-    ///
-    /// # Errors
-    ///
-    /// The limiter's.
+    /// Notifies the limiter, if any, that a growth which it permitted failed with this error.
     fn notify<L: ResourceLimiter>(
         &self,
         limiter: &mut ResourceLimiterRef<L>,
     ) -> Result<(), LimiterError>
         ensures loan { KeepsLoan limiter.old limiter.new }
-        ensures noticed { (optional_rules L.rules).noticed (lent_limiter limiter.old)
-            (notice self.now) result
-            (lent_limiter limiter.new) };
+        ensures noticed { (optional_rules L.rules).noticed
+            (lent_limiter limiter.old) (notice self.now) result (lent_limiter limiter.new) };
 }
 
 impl GrowthError for MemoryError {
@@ -115,8 +104,7 @@ pub fn tell<L: ResourceLimiter, E: GrowthError>(
     ensures loan { KeepsLoan limiter.old limiter.new }
     ensures told { (notice_answer : NoticeAnswer)
         × (optional_rules L.rules).noticed (lent_limiter limiter.old) (E.notice cause) notice_answer
-        (lent_limiter limiter.new)
-        × (result ≡ error_of_failure refusal cause notice_answer) }
+        (lent_limiter limiter.new) × (result ≡ error_of_failure refusal cause notice_answer) }
 {
     let notice_answer = cause.notify(limiter);
     match notice_answer {
@@ -142,11 +130,6 @@ pub fn charge<T: ValueSize>(fuel: &mut Fuel, values: u64) -> Result<(), u64>
 }
 
 /// Asks whether a memory of a type may be made, and returns its minimum in bytes.
-///
-/// # Errors
-///
-/// In the order of the tests: `MinimumSizeOverflow` if the minimum has 2^64 bytes or more;
-/// `ResourceLimiterDeniedAllocation` if the limiter doesn't permit it.
 pub fn permitted_minimum<L: ResourceLimiter>(
     ty: MemoryType,
     limiter: &mut ResourceLimiterRef<L>,
@@ -200,11 +183,8 @@ pub fn decide_growth<L: ResourceLimiter>(
     }
     let paid = charge::<u8>(fuel, (size - old_size) as u64);
     if let Err(required_fuel) = paid {
-        return Err(tell(
-            limiter,
-            MemoryError::OutOfFuel { required_fuel },
-            MEMORY_DENIED,
-        ));
+        let cause = MemoryError::OutOfFuel { required_fuel };
+        return Err(tell(limiter, cause, MEMORY_DENIED));
     }
     Ok(())
 }

@@ -1,5 +1,4 @@
-//! What holds of all memories and tables and of all their types. These functions do nothing: each
-//! states a law as its contract.
+//! What holds of all memories and tables and their types. Each function does nothing: it is a law.
 ghost use Rattle.wasmi_store.specs.Memory.{IsValidMemory, MemoryTypeValue, IsSubtype};
 ghost use Rattle.wasmi_store.specs.Table.{IsValidTable};
 ghost use Rattle.wasmi_store.specs.Table as table;
@@ -7,10 +6,8 @@ ghost use Rattle.wasmi_store.specs.Table as table;
 use crate::memory::{LinearMemory, Region};
 use crate::table::Table;
 
-/// Every memory is valid, also one that was written to or has grown: its type is valid, and its
-/// bytes are whole pages, as many as its type allows.
-///
-/// Core specification, validity of memory instances.
+/// Every memory is valid, also one that was written to or has grown: its type is valid, and it has
+/// whole pages, as many as that allows. Core specification, validity of memory instances.
 pub fn memories_are_valid<R: Region>(memory: &LinearMemory<R>)
     ensures { IsValidMemory memory.now }
 {
@@ -19,9 +16,7 @@ pub fn memories_are_valid<R: Region>(memory: &LinearMemory<R>)
 }
 
 /// Every table is valid, also one that was written to or has grown: its type is valid, and it has
-/// as many elements as that allows.
-///
-/// Core specification, validity of table instances.
+/// as many elements as that allows. Core specification, validity of table instances.
 pub fn tables_are_valid(table: &Table)
     ensures { IsValidTable table.now }
 {

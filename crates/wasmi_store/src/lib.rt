@@ -1,5 +1,4 @@
-//! Linear memories and tables: their types, what they contain, and how they are made and grow, with
-//! a meter or without one.
+//! Linear memories and tables: their types, what they contain, and how they are made and grow.
 #![tactic(auto)]
 
 pub mod bulk;

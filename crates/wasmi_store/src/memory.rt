@@ -4,7 +4,7 @@ ghost use Rattle.std.specs.Prelude.{◌≡◌, ◌/◌, length, Option, Some, No
 ghost use Rattle.std.specs.Borrow.{sem, Lends, Array, u8};
 ghost use Rattle.wasmi_types.specs.Access.{at};
 ghost use Rattle.wasmi_meter.specs.Limiter.{optional_rules, lent_limiter, KeepsLoan};
-ghost use Rattle.wasmi_meter.specs.Meter.{meter_at_entry, meter_at_exit};
+ghost use Rattle.wasmi_meter.specs.Meter.{meter_at_entry as at_entry, meter_at_exit as at_exit};
 ghost use Rattle.wasmi_store.specs.Buffer.{Owned, Lent, with_bytes};
 ghost use Rattle.wasmi_store.specs.Growth.{metered_value, metered};
 ghost use Rattle.wasmi_store.specs.Memory.{MemoryValue, GrowsMemory, IsSized, in_bounds, MakesMemory, memory_of, buffer_of, pages_of, dynamic_type, WritesMemory, WritesMemoryRange, byte_filling_of, byte_copy_of, IsSubtype};
@@ -44,19 +44,12 @@ impl<R: Region> Model for LinearMemory<R> {
 
 /// A linear memory of whole pages; `'r` is the lifetime of a buffer that its bytes may lie in.
 ///
-/// It is valid at any time: see [`crate::laws::memories_are_valid`].
-///
-/// Core specification, memory instances. Upstream: `wasmi_core::Memory`.
+/// It is valid at any time: see [`crate::laws::memories_are_valid`]. Core specification, memory
+/// instances. Upstream: `wasmi_core::Memory`.
 pub type Memory<'r> = LinearMemory<&'r mut [u8]>;
 
 impl<'r> LinearMemory<&'r mut [u8]> {
     /// A memory of zeros, at the minimum of its type. It takes no fuel.
-    ///
-    /// # Errors
-    ///
-    /// In the order of the tests: `MinimumSizeOverflow` if the minimum has 2^64 bytes or more;
-    /// `ResourceLimiterDeniedAllocation` if the limiter doesn't permit it; `OutOfSystemMemory`, of
-    /// which the limiter is notified.
     pub fn new<L: ResourceLimiter>(
         alloc: Global,
         ty: MemoryType,
@@ -74,14 +67,7 @@ impl<'r> LinearMemory<&'r mut [u8]> {
     }
 
     /// A memory of zeros at the front of a borrowed buffer, at the minimum of its type. It takes no
-    /// fuel and allocates nothing, and the bytes past the minimum stay as they are.
-    ///
-    /// # Errors
-    ///
-    /// In the order of the tests: `MinimumSizeOverflow` if the minimum has 2^64 bytes or more;
-    /// `ResourceLimiterDeniedAllocation` if the limiter doesn't permit it;
-    /// `InvalidStaticBufferSize` if the buffer is shorter than the minimum, of which the limiter is
-    /// notified. After an error the loan has ended, and the bytes of the buffer are unchanged.
+    /// fuel and no memory, and the bytes past the minimum stay. After an error the loan has ended.
     pub fn new_static<L: ResourceLimiter>(
         ty: MemoryType,
         limiter: &mut ResourceLimiterRef<L>,
@@ -163,8 +149,7 @@ impl<R: Region> LinearMemory<R> {
     }
 
     /// Grows by `additional` pages of zeros, and returns the old size in pages. A growth by 0 pages
-    /// changes nothing and asks no limiter. Bytes of a borrowed buffer past the new size stay as
-    /// they are.
+    /// changes nothing and asks no limiter. Bytes of a borrowed buffer past the new size stay.
     ///
     /// # Errors
     ///
@@ -190,8 +175,8 @@ impl<R: Region> LinearMemory<R> {
     ) -> Result<u64, MemoryError>
         ensures loan { KeepsLoan limiter.old limiter.new }
         ensures grown { GrowsMemory (optional_rules L.rules) additional
-            (metered_value self.old (meter_at_entry fuel.entry) (lent_limiter limiter.old)) result
-            (metered_value self.new (meter_at_exit fuel.exit) (lent_limiter limiter.new)) }
+            (metered_value self.old (at_entry fuel.entry) (lent_limiter limiter.old)) result
+            (metered_value self.new (at_exit fuel.exit) (lent_limiter limiter.new)) }
     {
         with_meter!(fuel => self.grow_metered(additional, fuel, limiter))
     }
@@ -243,24 +228,15 @@ impl<R: Region> LinearMemory<R> {
     }
 
     /// Fills a buffer with the bytes from an offset on.
-    ///
-    /// # Errors
-    ///
-    /// `OutOfBoundsAccess` if they end past the memory; then nothing is copied.
     pub fn read(&self, offset: usize, buffer: &mut [u8]) -> Result<(), MemoryError>
         ensures ok { OnOk result (at self.now.bytes offset (length buffer.old) ≡ Some buffer.new) }
-        ensures err { IfErr result
-            (λ error. (error ≡ MemoryError.OutOfBoundsAccess)
+        ensures err { IfErr result (λ error. (error ≡ MemoryError.OutOfBoundsAccess)
             × (at self.now.bytes offset (length buffer.old) ≡ None) × (buffer.new ≡ buffer.old)) }
     {
         read_bytes(self.buffer.data(), offset, buffer)
     }
 
     /// Writes bytes over those from an offset on.
-    ///
-    /// # Errors
-    ///
-    /// `OutOfBoundsAccess` if they would end past the memory; then nothing is written.
     pub fn write(&mut self, offset: usize, buffer: &[u8]) -> Result<(), MemoryError>
         ensures { WritesMemory self.old offset buffer.now result self.new }
     {
@@ -268,13 +244,7 @@ impl<R: Region> LinearMemory<R> {
     }
 
     /// Fills `len` bytes from `dst` on with a value. It is charged as a table's `fill`, by bytes.
-    ///
     /// Core specification, memory.fill.
-    ///
-    /// # Errors
-    ///
-    /// In the order of the tests: `OutOfBoundsAccess` if they end past the memory; `OutOfFuel`,
-    /// which is tested also if no byte is filled. Then no byte is written, and no fuel taken.
     pub fn fill(
         &mut self,
         dst: u64,
@@ -283,8 +253,7 @@ impl<R: Region> LinearMemory<R> {
         fuel: Option<&mut Fuel>,
     ) -> Result<(), MemoryError>
         ensures { WritesMemoryRange (byte_filling_of dst value len)
-            (metered self.old (meter_at_entry fuel.entry)) result
-            (metered self.new (meter_at_exit fuel.exit)) }
+            (metered self.old (at_entry fuel.entry)) result (metered self.new (at_exit fuel.exit)) }
     {
         with_meter!(fuel => self.fill_metered(dst, value, len, fuel))
     }
@@ -304,12 +273,7 @@ impl<R: Region> LinearMemory<R> {
     }
 
     /// Copies `len` bytes from `src` on over those from `dst` on: the old ones if they overlap.
-    ///
     /// Core specification, memory.copy within a memory.
-    ///
-    /// # Errors
-    ///
-    /// Those of `fill`, if a range ends past the memory.
     pub fn copy_within(
         &mut self,
         dst: u64,
@@ -318,8 +282,7 @@ impl<R: Region> LinearMemory<R> {
         fuel: Option<&mut Fuel>,
     ) -> Result<(), MemoryError>
         ensures { WritesMemoryRange (byte_copy_of dst src len self.old.bytes)
-            (metered self.old (meter_at_entry fuel.entry)) result
-            (metered self.new (meter_at_exit fuel.exit)) }
+            (metered self.old (at_entry fuel.entry)) result (metered self.new (at_exit fuel.exit)) }
     {
         with_meter!(fuel => self.copy_within_metered(dst, src, len, fuel))
     }
@@ -339,12 +302,7 @@ impl<R: Region> LinearMemory<R> {
     }
 
     /// Copies `len` bytes of another memory, from `src` on, over those of a memory from `dst` on.
-    ///
     /// Core specification, memory.copy of two memories.
-    ///
-    /// # Errors
-    ///
-    /// Those of `fill`, if a range ends past its memory.
     pub fn copy<S: Region>(
         dst_memory: &mut LinearMemory<R>,
         dst: u64,
@@ -354,8 +312,8 @@ impl<R: Region> LinearMemory<R> {
         fuel: Option<&mut Fuel>,
     ) -> Result<(), MemoryError>
         ensures { WritesMemoryRange (byte_copy_of dst src len src_memory.now.bytes)
-            (metered dst_memory.old (meter_at_entry fuel.entry)) result
-            (metered dst_memory.new (meter_at_exit fuel.exit)) }
+            (metered dst_memory.old (at_entry fuel.entry)) result
+            (metered dst_memory.new (at_exit fuel.exit)) }
     {
         with_meter!(fuel => dst_memory.copy_metered(dst, src_memory, src, len, fuel))
     }
@@ -377,13 +335,7 @@ impl<R: Region> LinearMemory<R> {
     }
 
     /// Copies `len` bytes of a data segment, from `src` on, over the bytes from `dst` on. A segment
-    /// that was dropped has no bytes.
-    ///
-    /// Core specification, memory.init.
-    ///
-    /// # Errors
-    ///
-    /// Those of `fill`, if a range ends past the segment or the memory.
+    /// that was dropped has no bytes. Core specification, memory.init.
     pub fn init(
         &mut self,
         segment: &[u8],
@@ -393,8 +345,7 @@ impl<R: Region> LinearMemory<R> {
         fuel: Option<&mut Fuel>,
     ) -> Result<(), MemoryError>
         ensures { WritesMemoryRange (byte_copy_of dst src len segment.now)
-            (metered self.old (meter_at_entry fuel.entry)) result
-            (metered self.new (meter_at_exit fuel.exit)) }
+            (metered self.old (at_entry fuel.entry)) result (metered self.new (at_exit fuel.exit)) }
     {
         with_meter!(fuel => self.init_metered(segment, dst, src, len, fuel))
     }

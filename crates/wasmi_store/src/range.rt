@@ -18,14 +18,9 @@ pub fn lies_within<T>(items: &[T], index: u64, len: u64) -> bool
 }
 
 /// Fills a buffer with the bytes from an offset on.
-///
-/// # Errors
-///
-/// `OutOfBoundsAccess` if they end past the bytes; then nothing is copied.
 pub fn read_bytes(bytes: &[u8], offset: usize, buffer: &mut [u8]) -> Result<(), MemoryError>
     ensures ok { OnOk result (at bytes.now offset (length buffer.old) ≡ Some buffer.new) }
-    ensures err { IfErr result
-        (λ error. (error ≡ MemoryError.OutOfBoundsAccess)
+    ensures err { IfErr result (λ error. (error ≡ MemoryError.OutOfBoundsAccess)
         × (at bytes.now offset (length buffer.old) ≡ None) × (buffer.new ≡ buffer.old)) }
 {
     if !lies_within(bytes, offset as u64, buffer.len() as u64) {
@@ -37,14 +32,9 @@ pub fn read_bytes(bytes: &[u8], offset: usize, buffer: &mut [u8]) -> Result<(), 
 }
 
 /// Writes bytes over those from an offset on.
-///
-/// # Errors
-///
-/// `OutOfBoundsAccess` if they would end past the bytes; then nothing is written.
 pub fn write_bytes(bytes: &mut [u8], offset: usize, buffer: &[u8]) -> Result<(), MemoryError>
     ensures ok { OnOk result (overwrite bytes.old offset buffer.now ≡ Some bytes.new) }
-    ensures err { IfErr result
-        (λ error. (error ≡ MemoryError.OutOfBoundsAccess)
+    ensures err { IfErr result (λ error. (error ≡ MemoryError.OutOfBoundsAccess)
         × (overwrite bytes.old offset buffer.now ≡ None) × (bytes.new ≡ bytes.old)) }
     ensures len { length bytes.new ≡ length bytes.old }
 {
@@ -83,8 +73,7 @@ pub fn fill_range<T: Copy>(elements: &mut [T], start: usize, end: usize, value: 
 /// An item of a list of which a part can be copied over another part.
 pub trait Chunk: Copy {
     /// Copies `len` items, at most `CHUNK`, from `src` on over those from `dst` on. Each
-    /// implementation has a buffer of its own type. LLVM drops it: the two copies become one
-    /// `memmove`.
+    /// implementation has a buffer of its type. LLVM drops it: the two copies become one `memmove`.
     fn copy_chunk(elements: &mut [Self], dst: usize, src: usize, len: usize)
         requires few { len ≤ 4096 }
         requires dst { dst + len ≤ length elements.old }

@@ -2,7 +2,7 @@
 //! read, set, filled, copied and initialized.
 ghost use Rattle.std.specs.Prelude.{◌≡◌, ◌≢◌, ◌<◌, OnErr, OnOk, length, Some};
 ghost use Rattle.wasmi_meter.specs.Limiter.{optional_rules, lent_limiter, KeepsLoan};
-ghost use Rattle.wasmi_meter.specs.Meter.{meter_at_entry, meter_at_exit};
+ghost use Rattle.wasmi_meter.specs.Meter.{meter_at_entry as at_entry, meter_at_exit as at_exit};
 ghost use Rattle.wasmi_store.specs.Growth.{metered_value, metered};
 ghost use Rattle.wasmi_store.specs.Segment.{segment_of};
 ghost use Rattle.wasmi_store.specs.Table.{IsSubtype, TableValue, with_elements_reserved, IsSized, size_of, dynamic_type, element_at, MakesTable, GrowsTableRaw, GrowsTable, SetsTable, SetsTableRaw, WritesTable, filling_of, raw_filling_of, copy_of, initialization_of};
@@ -28,9 +28,8 @@ use wasmi_typed::TypedRawRef;
 /// nothing is charged. The forms whose name ends in `_metered` take one that isn't optional. If a
 /// host chooses no other costs, a unit of fuel pays for 64 bytes, and an element has 4 bytes.
 ///
-/// It is valid at any time: see [`crate::laws::tables_are_valid`].
-///
-/// Core specification, table instances. Upstream: `wasmi_core::Table`.
+/// It is valid at any time: see [`crate::laws::tables_are_valid`]. Core specification, table
+/// instances. Upstream: `wasmi_core::Table`.
 #[derive(Debug, Drop)]
 pub struct Table {
     ty: TableType,
@@ -52,15 +51,7 @@ impl Model for Table {
 }
 
 impl Table {
-    /// A table at the minimum of its type, each element of which is the given reference. It takes
-    /// no fuel.
-    ///
-    /// # Errors
-    ///
-    /// In the order of the tests: `ElementTypeMismatch` if the reference is of another type;
-    /// `MinimumSizeOverflow` if `usize` has 32 bits and the minimum more;
-    /// `ResourceLimiterDeniedAllocation` if the limiter doesn't permit it; `OutOfSystemMemory`, of
-    /// which the limiter is notified.
+    /// A table of one reference, at the minimum of its type. It takes no fuel.
     pub fn new<L: ResourceLimiter>(
         alloc: Global,
         ty: TableType,
@@ -106,10 +97,6 @@ impl Table {
     /// Reserves memory for so many elements in all, those that are there included: until it has
     /// more, a growth isn't refused with `OutOfSystemMemory`. What is reserved already stays so, and
     /// no element is added.
-    ///
-    /// # Errors
-    ///
-    /// `AllocError` if the memory is refused. Then no more is reserved.
     pub fn reserve(&mut self, elements: u64) -> Result<(), AllocError>
         ensures reserved { OnOk result (self.new ≡ with_elements_reserved self.old elements) }
         ensures refused { OnErr result ((self.new ≡ self.old) × (self.old.reserved < elements)) }
@@ -147,10 +134,6 @@ impl Table {
     }
 
     /// Grows by `delta` elements, each the given reference, and returns the old size.
-    ///
-    /// # Errors
-    ///
-    /// `ElementTypeMismatch` if the type differs, also in a growth by 0; then those of `grow_raw`.
     pub fn grow<L: ResourceLimiter>(
         &mut self,
         delta: u64,
@@ -160,8 +143,8 @@ impl Table {
     ) -> Result<u64, TableError>
         ensures loan { KeepsLoan limiter.old limiter.new }
         ensures grown { GrowsTable (optional_rules L.rules) delta init
-            (metered_value self.old (meter_at_entry fuel.entry) (lent_limiter limiter.old)) result
-            (metered_value self.new (meter_at_exit fuel.exit) (lent_limiter limiter.new)) }
+            (metered_value self.old (at_entry fuel.entry) (lent_limiter limiter.old)) result
+            (metered_value self.new (at_exit fuel.exit) (lent_limiter limiter.new)) }
     {
         with_meter!(fuel => self.grow_metered(delta, init, fuel, limiter))
     }
@@ -226,8 +209,8 @@ impl Table {
     ) -> Result<u64, TableError>
         ensures loan { KeepsLoan limiter.old limiter.new }
         ensures grown { GrowsTableRaw (optional_rules L.rules) delta init
-            (metered_value self.old (meter_at_entry fuel.entry) (lent_limiter limiter.old)) result
-            (metered_value self.new (meter_at_exit fuel.exit) (lent_limiter limiter.new)) }
+            (metered_value self.old (at_entry fuel.entry) (lent_limiter limiter.old)) result
+            (metered_value self.new (at_exit fuel.exit) (lent_limiter limiter.new)) }
     {
         with_meter!(fuel => self.grow_raw_metered(delta, init, fuel, limiter))
     }
@@ -295,11 +278,6 @@ impl Table {
     }
 
     /// Sets the element at an index.
-    ///
-    /// # Errors
-    ///
-    /// In the order of the tests: `ElementTypeMismatch` if the reference is of another type;
-    /// `SetOutOfBounds` past the end.
     pub fn set(&mut self, index: u64, value: TypedRawRef) -> Result<(), TableError>
         ensures { SetsTable index value self.old result self.new }
     {
@@ -308,10 +286,6 @@ impl Table {
     }
 
     /// Sets the element at an index. The reference's type isn't tested: that is up to the caller.
-    ///
-    /// # Errors
-    ///
-    /// `SetOutOfBounds` past the end.
     pub fn set_raw(&mut self, index: u64, value: RawRef) -> Result<(), TableError>
         ensures { SetsTableRaw index value self.old result self.new }
     {
@@ -325,11 +299,6 @@ impl Table {
 
     /// Copies `len` items of an element segment, from `src` on, over the elements from `dst` on.
     /// Copying no items costs no fuel.
-    ///
-    /// # Errors
-    ///
-    /// In the order of the tests: `ElementTypeMismatch` if the items are of another type;
-    /// `InitOutOfBounds` if a range ends past the segment or the table; `OutOfFuel`.
     pub fn init(
         &mut self,
         element: ElementSegmentRef,
@@ -339,8 +308,7 @@ impl Table {
         fuel: Option<&mut Fuel>,
     ) -> Result<(), TableError>
         ensures { WritesTable (initialization_of dst src len (segment_of element.entry))
-            (metered self.old (meter_at_entry fuel.entry)) result
-            (metered self.new (meter_at_exit fuel.exit)) }
+            (metered self.old (at_entry fuel.entry)) result (metered self.new (at_exit fuel.exit)) }
     {
         with_meter!(fuel => self.init_metered(element, dst, src, len, fuel))
     }
@@ -363,11 +331,6 @@ impl Table {
     }
 
     /// Copies `len` elements of another table, from `src` on, over those of a table from `dst` on.
-    ///
-    /// # Errors
-    ///
-    /// In the order of the tests: `ElementTypeMismatch` if the types differ; `CopyOutOfBounds` if a
-    /// range ends past its table; `OutOfFuel`, which is tested also if no element is copied.
     pub fn copy(
         dst_table: &mut Table,
         dst: u64,
@@ -377,8 +340,8 @@ impl Table {
         fuel: Option<&mut Fuel>,
     ) -> Result<(), TableError>
         ensures { WritesTable (copy_of dst src len src_table.now)
-            (metered dst_table.old (meter_at_entry fuel.entry)) result
-            (metered dst_table.new (meter_at_exit fuel.exit)) }
+            (metered dst_table.old (at_entry fuel.entry)) result
+            (metered dst_table.new (at_exit fuel.exit)) }
     {
         with_meter!(fuel => dst_table.copy_metered(dst, src_table, src, len, fuel))
     }
@@ -402,11 +365,6 @@ impl Table {
     }
 
     /// Copies `len` elements from `src` on over those from `dst` on: the old ones if they overlap.
-    ///
-    /// # Errors
-    ///
-    /// In the order of the tests: `CopyOutOfBounds` if a range ends past the table; `OutOfFuel`,
-    /// which is tested also if no element is copied.
     pub fn copy_within(
         &mut self,
         dst: u64,
@@ -415,8 +373,7 @@ impl Table {
         fuel: Option<&mut Fuel>,
     ) -> Result<(), TableError>
         ensures { WritesTable (copy_of dst src len self.old)
-            (metered self.old (meter_at_entry fuel.entry)) result
-            (metered self.new (meter_at_exit fuel.exit)) }
+            (metered self.old (at_entry fuel.entry)) result (metered self.new (at_exit fuel.exit)) }
     {
         with_meter!(fuel => self.copy_within_metered(dst, src, len, fuel))
     }
@@ -437,10 +394,6 @@ impl Table {
     }
 
     /// Fills `len` elements from `dst` on with a reference.
-    ///
-    /// # Errors
-    ///
-    /// `ElementTypeMismatch` if the reference is of another type; then those of `fill_raw`.
     pub fn fill(
         &mut self,
         dst: u64,
@@ -449,8 +402,7 @@ impl Table {
         fuel: Option<&mut Fuel>,
     ) -> Result<(), TableError>
         ensures { WritesTable (filling_of dst val len)
-            (metered self.old (meter_at_entry fuel.entry)) result
-            (metered self.new (meter_at_exit fuel.exit)) }
+            (metered self.old (at_entry fuel.entry)) result (metered self.new (at_exit fuel.exit)) }
     {
         with_meter!(fuel => self.fill_metered(dst, val, len, fuel))
     }
@@ -472,11 +424,6 @@ impl Table {
     }
 
     /// Fills `len` elements from `dst` on with a reference.
-    ///
-    /// # Errors
-    ///
-    /// In the order of the tests: `FillOutOfBounds` if they end past the table; `OutOfFuel`, which
-    /// is tested also if no element is filled.
     pub fn fill_raw(
         &mut self,
         dst: u64,
@@ -485,8 +432,7 @@ impl Table {
         fuel: Option<&mut Fuel>,
     ) -> Result<(), TableError>
         ensures { WritesTable (raw_filling_of dst val len)
-            (metered self.old (meter_at_entry fuel.entry)) result
-            (metered self.new (meter_at_exit fuel.exit)) }
+            (metered self.old (at_entry fuel.entry)) result (metered self.new (at_exit fuel.exit)) }
     {
         let outside = TableError::FillOutOfBounds;
         with_meter!(fuel => fill_items(self.elements.as_mut_slice(), dst, val, len, outside, fuel))

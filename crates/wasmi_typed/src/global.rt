@@ -1,5 +1,4 @@
 //! Global variables, their types, and the errors of writing one.
-
 ghost use Rattle.std.specs.Prelude.{◌≡◌, ◌↔◌, IsTrue, Some};
 ghost use Rattle.std.specs.Borrow.{sem};
 ghost use Rattle.wasmi_typed.specs.Global.{SetsGlobal, LendsValue, global_error_text};
@@ -9,9 +8,7 @@ use std::fmt;
 use wasmi_raw::RawVal;
 use wasmi_types::ValType;
 
-/// Why a global variable was not written.
-///
-/// Upstream: `wasmi_core::GlobalError`.
+/// Why a global variable was not written. Upstream: `wasmi_core::GlobalError`.
 #[derive(Debug, PartialEq, Eq, Drop)]
 pub enum GlobalError {
     /// The variable is a constant.
@@ -42,9 +39,8 @@ impl fmt::Display for GlobalError {
 
 impl std::error::Error for GlobalError {}
 
-/// Whether a global variable can be written.
-///
-/// Core specification 2.3, global types. Upstream: `wasmi_core::Mutability`.
+/// Whether a global variable can be written. Core specification 2.3, global types. Upstream:
+/// `wasmi_core::Mutability`.
 #[derive(Clone, Copy, Debug, PartialEq, Eq)]
 pub enum Mutability {
     /// It keeps its first value.
@@ -69,9 +65,8 @@ impl Mutability {
     }
 }
 
-/// The type of a global variable.
-///
-/// Core specification 2.3, global types. Upstream: `wasmi_core::GlobalType`.
+/// The type of a global variable. Core specification 2.3, global types. Upstream:
+/// `wasmi_core::GlobalType`.
 #[derive(Clone, Copy, Debug, PartialEq, Eq)]
 pub struct GlobalType {
     /// The type of its value.
@@ -106,9 +101,8 @@ impl GlobalType {
     }
 }
 
-/// A global variable, which contracts see as its present value and its type.
-///
-/// Core specification 4.2, global instances. Upstream: `wasmi_core::Global`.
+/// A global variable, which contracts see as its present value and its type. Core specification
+/// 4.2, global instances. Upstream: `wasmi_core::Global`.
 #[derive(Debug, Drop)]
 pub struct Global {
     value: RawVal,

@@ -1,5 +1,4 @@
 //! The amount of a shift: how many bits a number is shifted by.
-
 ghost use Rattle.std.specs.Prelude.{◌≡◌, ℕ, ◌==◌, if◌then◌else◌};
 ghost use mir.Val.{bits};
 ghost use Rattle.wasmi_typed.specs.Typed.{shift_amount};
@@ -17,9 +16,8 @@ mod sealed {
     impl<T: Number, const N: usize> Sealed<T> for [T; N] {}
 }
 
-/// By how many bits a number is shifted. Contracts see it as that number.
-///
-/// Upstream: `wasmi_core::ShiftAmount`.
+/// By how many bits a number is shifted. Contracts see it as that number. Upstream:
+/// `wasmi_core::ShiftAmount`.
 #[derive(Clone, Copy, Debug, PartialEq, Eq)]
 pub struct ShiftAmount {
     bits: u8,

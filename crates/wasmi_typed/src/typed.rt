@@ -1,5 +1,4 @@
 //! Raw values with their types, and of which value type the values of a Rust type are.
-
 ghost use Rattle.std.specs.Prelude.{◌≡◌};
 ghost use Rattle.std.specs.Int.{w8, w16, w32, w64};
 ghost use Rattle.wasmi_raw.specs.RawVal.{unsigned_in, signed_in, bool_in, vector_in};
@@ -11,9 +10,7 @@ use std::num::NonZero;
 use wasmi_raw::{F32, F64, RawVal, ReadAs, V128};
 use wasmi_types::ValType;
 
-/// A type whose values are all of one value type.
-///
-/// Upstream: `wasmi_core::Typed`.
+/// A type whose values are all of one value type. Upstream: `wasmi_core::Typed`.
 pub trait Typed {
     /// The value type, in contracts.
     ghost TY: { ValType };
@@ -95,9 +92,7 @@ impl Typed for V128 {
     const TY: ValType = ValType::V128;
 }
 
-/// A raw value with its type.
-///
-/// Upstream: `wasmi_core::TypedRawVal`.
+/// A raw value with its type. Upstream: `wasmi_core::TypedRawVal`.
 #[derive(Clone, Copy, Debug, PartialEq, Eq)]
 pub struct TypedRawVal {
     /// The type.
@@ -133,10 +128,7 @@ impl<T: Typed + Into<RawVal>> From<T> for TypedRawVal {
     ghost from_gives = { λ value typed. (typed.ty ≡ T.TY) × (T.converts value typed.raw) };
 
     fn from(value: T) -> TypedRawVal {
-        TypedRawVal {
-            ty: T::TY,
-            raw: value.into(),
-        }
+        TypedRawVal::new(T::TY, value.into())
     }
 }
 

@@ -1,9 +1,7 @@
 //! Raw references with their types, and the error where a typed raw value is none.
-
-ghost use Rattle.std.specs.Prelude.{◌≡◌, Some, None, MatchResult};
-ghost use Rattle.std.specs.Int.{w32};
-ghost use Rattle.wasmi_raw.specs.RawVal.{raw_of, unsigned_in};
-ghost use Rattle.wasmi_types.specs.Value.{reference_of, value_of};
+ghost use Rattle.std.specs.Prelude.{◌≡◌, Some, None};
+ghost use Rattle.wasmi_raw.specs.RawVal.{raw_of};
+ghost use Rattle.wasmi_types.specs.Value.{value_of};
 ghost use Rattle.wasmi_typed.specs.Typed.{not_a_reference_text, IsReference};
 
 use crate::typed::TypedRawVal;
@@ -11,9 +9,7 @@ use std::fmt;
 use wasmi_raw::{RawRef, RawVal};
 use wasmi_types::{RefType, ValType};
 
-/// A raw reference with its type.
-///
-/// Upstream: `wasmi_core::TypedRawRef`.
+/// A raw reference with its type. Upstream: `wasmi_core::TypedRawRef`.
 #[derive(Clone, Copy, Debug, PartialEq, Eq)]
 pub struct TypedRawRef {
     /// The reference.
@@ -34,10 +30,7 @@ impl TypedRawRef {
     pub fn null(ty: RefType) -> TypedRawRef
         ensures { result ≡ record { raw = 0; ty = ty } }
     {
-        TypedRawRef {
-            raw: RawRef::null(),
-            ty,
-        }
+        TypedRawRef::new(RawRef::null(), ty)
     }
 
     /// The reference.
@@ -64,9 +57,7 @@ impl From<TypedRawRef> for TypedRawVal {
     }
 }
 
-/// Why a typed raw value is no reference: its type is none of references.
-///
-/// Own: upstream panics.
+/// Why a typed raw value is no reference: its type is none of references. Own: upstream panics.
 #[derive(Debug, PartialEq, Eq, Drop)]
 pub struct NotAReference;
 

@@ -5,7 +5,7 @@ use Rattle.std.proofs.Common.{ap, sym, ◌∙◌}
 use Rattle.std.proofs.Math.Seq.{take-append_seam, drop-append_seam}
 use Rattle.std.specs.Bool.{Decides, one_answer}
 use Rattle.std.specs.Ordering.{nat_cmp, eq_by_cmp}
-use Rattle.std.specs.Cmp.{IsEquivalence, first_so, second_so, unsigned_ties}
+use Rattle.std.specs.Cmp.{IsEquivalence, decided, first_so, second_so, unsigned_ties}
 use Rattle.std.specs.Cmp.Lexicographic.{pointwise_decides, bytes_decides, lists_ties}
 use Rattle.wasmi_types.specs.declared.value.ValType.{ValType}
 use Rattle.wasmi_types.specs.declared.value.ValType.TheVariants.{I32, I64, F32, F64, V128, FuncRef, ExternRef}
@@ -47,14 +47,6 @@ order_key-one a b e =
     rw (← drop-append_seam a.params a.results, parts.0, joined) (drop-append_seam b.params b.results) in
     λ i. record { params = params i; results = results i }
 
--- a test that decides whether two values are the same is an equivalence
-equivalence_from_decides : {A : Type 0} {E : A → A → Bool} → ((x y : A) → Decides (E x y) (x ≡ y)) → IsEquivalence E
-equivalence_from_decides {E = E} d = record {
-  refl = λ x. (d x x).1 refl;
-  symm = λ x y. one_answer (E x y) (E y x) (d x y) (λ e. sym ((d y x).0 e), λ e. (d y x).1 (sym e));
-  congr = λ x y z e. ap (λ v. E v z) ((d x y).0 e);
-}
-
 module _ {E : ValType → ValType → Bool} (decides : (x y : ValType) → Decides (E x y) (x ≡ y)) where
   -- the test of both lists decides whether two function types are the same
   pub same_lists_decides : (a b : FunctionType) → Decides (same_lists E a b) (a ≡ b)
@@ -76,7 +68,7 @@ module _ {E : ValType → ValType → Bool} (decides : (x y : ValType) → Decid
 
   -- the test of both lists is an equivalence
   pub same_lists_equiv : IsEquivalence (same_lists E)
-  same_lists_equiv = equivalence_from_decides same_lists_decides
+  same_lists_equiv = decided (same_lists E) same_lists_decides
 
 -- the derived `==` decides whether two value types, the entries of function types, are the same
 pub same_type_decides : (x y : ValType) → Decides (sameb the_type x y) (x ≡ y)

@@ -5,35 +5,28 @@ use Rattle.wasmi_types.specs.declared.trap.TrapCode.TheVariants.{UnreachableCode
 use Rattle.std.specs.Fmt.{signed_decimal}
 use Rattle.wasmi_types.specs.declared.trap.TrapReason.TheVariants.{InstructionTrap, I32Exit, Message, Host}
 
+-- the row of a trap code: the number that stands for it, and its text
+abbrev pub code_row : TrapCode → ℕ × List ℕ
+code_row UnreachableCodeReached = (1, codes "wasm `unreachable` instruction executed")
+code_row MemoryOutOfBounds = (2, codes "out of bounds memory access")
+code_row TableOutOfBounds = (3, codes "undefined element: out of bounds table access")
+code_row IndirectCallToNull = (4, codes "uninitialized element 2")
+code_row IntegerDivisionByZero = (5, codes "integer divide by zero")
+code_row IntegerOverflow = (6, codes "integer overflow")
+code_row BadConversionToInteger = (7, codes "invalid conversion to integer")
+code_row StackOverflow = (8, codes "call stack exhausted")
+code_row BadSignature = (9, codes "indirect call type mismatch")
+code_row OutOfFuel = (10, codes "all fuel consumed by WebAssembly")
+code_row GrowthOperationLimited = (11, codes "growth operation limited")
+code_row OutOfSystemMemory = (12, codes "out of system memory")
+
 -- the number that stands for a trap code
 abbrev pub code_number : TrapCode → ℕ
-code_number UnreachableCodeReached = 1
-code_number MemoryOutOfBounds = 2
-code_number TableOutOfBounds = 3
-code_number IndirectCallToNull = 4
-code_number IntegerDivisionByZero = 5
-code_number IntegerOverflow = 6
-code_number BadConversionToInteger = 7
-code_number StackOverflow = 8
-code_number BadSignature = 9
-code_number OutOfFuel = 10
-code_number GrowthOperationLimited = 11
-code_number OutOfSystemMemory = 12
+code_number code = (code_row code).0
 
 -- the text of a trap code
 abbrev pub code_message : TrapCode → List ℕ
-code_message UnreachableCodeReached = codes "wasm `unreachable` instruction executed"
-code_message MemoryOutOfBounds = codes "out of bounds memory access"
-code_message TableOutOfBounds = codes "undefined element: out of bounds table access"
-code_message IndirectCallToNull = codes "uninitialized element 2"
-code_message IntegerDivisionByZero = codes "integer divide by zero"
-code_message IntegerOverflow = codes "integer overflow"
-code_message BadConversionToInteger = codes "invalid conversion to integer"
-code_message StackOverflow = codes "call stack exhausted"
-code_message BadSignature = codes "indirect call type mismatch"
-code_message OutOfFuel = codes "all fuel consumed by WebAssembly"
-code_message GrowthOperationLimited = codes "growth operation limited"
-code_message OutOfSystemMemory = codes "out of system memory"
+code_message code = (code_row code).1
 
 -- the answer is the trap code with this number, or the error where no trap code has it
 pub record IsCodeOf (number : ℕ) (answer : Result TrapCode InvalidTrapCode) : Type 0 where

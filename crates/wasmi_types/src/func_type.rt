@@ -1,11 +1,8 @@
-//! Function types: how one is read of two iterators, kept, compared and hashed; the errors of
-//! making one.
-
-ghost use Rattle.std.specs.Prelude.{◌≡◌, not, nat_le, if◌then◌else◌, ◌↔◌, IsTrue, ◌+◌, ◌<◌, ◌≤◌, ◌++◌, ◌∷◌, [], length, take, drop, IfOk, IfErr, IsErr, OnOk, OnErr, Some};
+//! Function types: how one is read of two iterators, kept, compared and hashed; why one isn't.
+ghost use Rattle.std.specs.Prelude.{◌≡◌, not, nat_le, if◌then◌else◌, ◌↔◌, IsTrue, ◌+◌, ◌<◌, ◌≤◌, ◌++◌, ◌∷◌, [], length, take, IfOk, IfErr, IsErr, OnOk, OnErr, Some};
 ghost use Rattle.std.specs.Cmp.{partial_equiv_from_equiv, partial_order_from_agreeing_total};
 ghost use Rattle.std.specs.Cmp.Lexicographic.{on_texts};
 ghost use Rattle.std.specs.Ordering.{as_partial_cmp};
-ghost use Rattle.std.specs.Rc.{rc_slice_items};
 ghost use Rattle.std.proofs.Common.{refl, ap};
 ghost use Rattle.wasmi_types.specs.FunctionType.{entries, entry_count, same_lists, order_key, function_type_cmp, lists_input, func_type_error_text, KeepsEntries};
 ghost use Rattle.wasmi_types.specs.FunctionTypeProofs.{same_lists_decides, same_lists_equiv, same_lists_by_cmp, same_type_decides};
@@ -20,9 +17,7 @@ use std::hash::{Hash, Hasher};
 use std::marker::Model;
 use std::rc::RcSlice;
 
-/// Why a function type cannot be made.
-///
-/// Upstream: `wasmi_core::FuncTypeError`.
+/// Why a function type cannot be made. Upstream: `wasmi_core::FuncTypeError`.
 #[derive(Clone, Copy, Debug, PartialEq, Eq)]
 pub enum FuncTypeError {
     /// There are more than 1,000 parameters.
@@ -83,9 +78,7 @@ impl Model for FuncType {
 }
 
 impl FuncType {
-    /// Makes the type of a function with these parameters and results, which `read` reads: its
-    /// contract says what each answer means.
-    ///
+    /// Makes the type of a function with these parameters and results, as `read` reads them.
     /// Upstream: `FuncType::new`, there of iterators that know their lengths.
     pub fn new<P, R>(alloc: Global, params: P, results: R) -> Result<Self, FuncTypeError>
     where
@@ -108,9 +101,8 @@ impl FuncType {
     /// Of each it reads at most 1,001 items: more than 1,000 parameters are refused before any
     /// result is read, then more than 1,000 results. Memory is taken, and can be refused, only
     /// where there are more than 21 items. Of an iterator nothing is read after its end or after
-    /// its item number 1,001, and the results are read only once the parameters have ended.
-    ///
-    /// Own: `new` takes its iterators by value, so its contract can't say what is left of them.
+    /// its item number 1,001, and the results are read only once the parameters have ended. Own:
+    /// `new` takes its iterators by value, so its contract can't say what is left of them.
     pub fn read<P, R>(alloc: Global, params: &mut P, results: &mut R) -> Result<Self, FuncTypeError>
     where
         P: Iterator<Item = ValType>,
@@ -123,32 +115,14 @@ impl FuncType {
         let mut entries = Entries::new(alloc);
         let len_params = entries.read(params, FuncTypeError::TooManyFunctionParams)?;
         let len_results = entries.read(results, FuncTypeError::TooManyFunctionResults)?;
-        match Self::from_entries(alloc, &entries, len_params, len_results) {
-            Ok(ty) => Ok(ty),
+        match entries.kept(alloc) {
+            Ok(kept) => Ok(FuncType {
+                len_params,
+                len_results,
+                kept,
+            }),
             Err(_) => Err(FuncTypeError::OutOfMemory),
         }
-    }
-
-    /// The function type of entries of which so many are parameters.
-    fn from_entries(
-        alloc: Global,
-        entries: &Entries,
-        len_params: u16,
-        len_results: u16,
-    ) -> Result<Self, AllocError>
-        requires count { length entries.now ≡ len_params + len_results }
-        requires params { len_params ≤ 1000 }
-        requires results { len_results ≤ 1000 }
-        ensures params { IfOk result (λ ty. ty.params ≡ take len_params entries.now) }
-        ensures results { IfOk result (λ ty. ty.results ≡ drop len_params entries.now) }
-        ensures refused { IsErr result → 21 < length entries.now }
-    {
-        let kept = entries.kept(alloc)?;
-        Ok(FuncType {
-            len_params,
-            len_results,
-            kept,
-        })
     }
 
     /// The types of the parameters.
@@ -226,11 +200,7 @@ impl Clone for FuncType {
             Kept::Inline(types) => Kept::Inline(*types),
             Kept::Big(types) => Kept::Big(types.clone()?),
         };
-        Ok(FuncType {
-            len_params: self.len_params,
-            len_results: self.len_results,
-            kept,
-        })
+        Ok(FuncType { kept, ..*self })
     }
 }
 
@@ -369,13 +339,11 @@ impl Entries {
         ensures read { ReadsNextType I.next_gives I.can_next types.old self.old result types.new
             self.new }
     {
-        match types.next() {
-            Some(ty) => {
-                self.push(ty)?;
-                Ok(true)
-            }
-            None => Ok(false),
-        }
+        let Some(ty) = types.next() else {
+            return Ok(false);
+        };
+        self.push(ty)?;
+        Ok(true)
     }
 
     /// Appends what an iterator gives until its first `None`, and answers how many came.

@@ -1,13 +1,11 @@
 //! Address types: the types of the addresses of a linear memory and of the indices of a table.
-
 ghost use Rattle.std.specs.Prelude.{◌≡◌, ◌↔◌, ◌^◌, IsTrue};
 ghost use Rattle.wasmi_types.specs.Value.{address_type, address_bits, narrower};
 
 use crate::ValType;
 
-/// The type of the addresses of a linear memory, or of the indices of a table.
-///
-/// The memory64 proposal, address types. Upstream: `wasmi_core::IndexType`.
+/// The type of the addresses of a linear memory, or of the indices of a table. The memory64
+/// proposal, address types. Upstream: `wasmi_core::IndexType`.
 #[derive(Clone, Copy, Debug, PartialEq, Eq)]
 pub enum IndexType {
     /// 32-bit addresses.

@@ -1,5 +1,4 @@
 //! Traps: why a call ended early. Trap codes with their numbers and texts, and errors of the host.
-
 ghost use Rattle.std.specs.Prelude.{◌≡◌, Some};
 ghost use Rattle.std.specs.Option.{option_copied, option_copied_mut};
 ghost use Rattle.std.specs.Borrow.{sem, LendsIf};
@@ -11,14 +10,11 @@ use std::error::Error;
 use std::fmt;
 use std::marker::Model;
 
-/// An error of the host, which a [`Trap`] can carry.
-///
-/// Upstream: `wasmi_core::HostError`.
+/// An error of the host, which a [`Trap`] can carry. Upstream: `wasmi_core::HostError`.
 pub trait HostError: fmt::Display + fmt::Debug + Drop {}
 
 /// Why a call of WebAssembly code or of the host ended early: a trap code, an exit status, a
 /// message or an error of the host. It stands in the value, and nothing is allocated for it.
-///
 /// Upstream: `wasmi_core::Trap`.
 #[derive(Debug, Drop)]
 pub struct Trap<H> {
@@ -144,15 +140,11 @@ impl<H: HostError> From<H> for Trap<H> {
     }
 }
 
-/// A number that no trap code has.
-///
-/// Upstream: `wasmi_core::InvalidTrapCode`.
+/// A number that no trap code has. Upstream: `wasmi_core::InvalidTrapCode`.
 #[derive(Clone, Copy, Debug, PartialEq, Eq)]
 pub struct InvalidTrapCode;
 
-/// Why an instruction trapped, as the numbers 1 to 12.
-///
-/// Upstream: `wasmi_core::TrapCode`.
+/// Why an instruction trapped, as the numbers 1 to 12. Upstream: `wasmi_core::TrapCode`.
 #[derive(Clone, Copy, Debug, PartialEq, Eq)]
 pub enum TrapCode {
     /// The instruction `unreachable` was executed.

@@ -1,11 +1,9 @@
 //! Value types and reference types, and the conversion between them.
-
 ghost use Rattle.std.specs.Prelude.{◌≡◌, is_some};
 ghost use Rattle.wasmi_types.specs.Value.{is_number_type, reference_of, value_of};
 
-/// The type of a value. Ordered as listed.
-///
-/// Core specification 2.3, value types. Upstream: `wasmi_core::ValType`.
+/// The type of a value. Ordered as listed. Core specification 2.3, value types. Upstream:
+/// `wasmi_core::ValType`.
 #[derive(Clone, Copy, Debug, PartialEq, Eq, PartialOrd, Ord, Hash)]
 pub enum ValType {
     /// A 32-bit integer.
@@ -51,9 +49,8 @@ impl ValType {
     }
 }
 
-/// The type of a reference. `Func` is below `Extern`.
-///
-/// Core specification 2.3, reference types. Upstream: `wasmi_core::RefType`.
+/// The type of a reference. `Func` is below `Extern`. Core specification 2.3, reference types.
+/// Upstream: `wasmi_core::RefType`.
 #[derive(Clone, Copy, Debug, PartialEq, Eq, PartialOrd, Ord, Hash)]
 pub enum RefType {
     /// A reference to a function.

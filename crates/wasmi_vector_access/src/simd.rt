@@ -3,7 +3,6 @@
 //! A form without `_at` accesses the address `ptr + offset`, a form with `_at` the given one;
 //! addresses count bytes. The only error is `MemoryOutOfBounds`, and then nothing is written. Core
 //! specification: memory instructions. Upstream: `wasmi_core::simd`.
-
 ghost use Rattle.std.specs.Prelude.{◌≡◌, ◌+◌};
 ghost use Rattle.wasmi_types.specs.Numbers.{le_bytes, w8, w16, w32, w64};
 ghost use Rattle.wasmi_access.specs.LoadStore.{loaded, IsStore};

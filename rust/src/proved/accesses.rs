@@ -1,13 +1,11 @@
 //! Loads and stores of little-endian numbers in a linear memory.
 pub mod access {
-    //! Loads and stores of any type that has little-endian bytes, and the traits of these bytes, of
-    //! wrapping and of extending.
+    //! Loads and stores of any type with little-endian bytes; traits of these, of wrapping, extending.
     //!
     //! A memory is a slice of bytes, and an address counts bytes from its start. An access to `ptr +
     //! offset` has the unbounded sum for its address. The only error is `MemoryOutOfBounds`, where the
     //! memory ends before the last byte, and then nothing is written. Upstream: the module
-    //! `memory::access`, private there. Core specification: memory instructions, and the storage of
-    //! integers under numerics.
+    //! `memory::access`, private there. Core specification: memory instructions; storage of integers.
 
     use crate::proved::raw::Number;
     use crate::proved::types::TrapCode;
@@ -253,10 +251,11 @@ pub mod access {
     ///
     /// `T` is a type with the trait `LittleEndianConvert`.
     #[inline]
-    pub fn load<T>(memory: &[u8], ptr: u64, offset: u64) -> Result<T, TrapCode>
-    where
-        T: LittleEndianConvert,
-    {
+    pub fn load<T: LittleEndianConvert>(
+        memory: &[u8],
+        ptr: u64,
+        offset: u64,
+    ) -> Result<T, TrapCode> {
         load_at::<T>(memory, effective_address(ptr, offset)?)
     }
 
@@ -279,10 +278,7 @@ pub mod access {
     ///
     /// `T` is a type with the trait `LittleEndianConvert`.
     #[inline]
-    pub fn load_at<T>(memory: &[u8], address: usize) -> Result<T, TrapCode>
-    where
-        T: LittleEndianConvert,
-    {
+    pub fn load_at<T: LittleEndianConvert>(memory: &[u8], address: usize) -> Result<T, TrapCode> {
         let mut buffer = T::Bytes::default();
         buffer.load_into(memory, address)?;
         Ok(T::from_le_bytes(buffer))
@@ -580,8 +576,7 @@ mod convert {
     }
 }
 mod integer {
-    //! The integers of 8 to 128 bits in little-endian bytes: the implementations of
-    //! `LittleEndianConvert`.
+    //! The integers of 8 to 128 bits in little-endian bytes: `LittleEndianConvert` of each.
 
     use crate::proved::accesses::access::LittleEndianConvert;
 

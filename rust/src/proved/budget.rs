@@ -305,8 +305,7 @@ mod pool {
             }
         }
 
-        /// How many tenants were added, which is the index of the next one. Those that were removed
-        /// count too.
+        /// How many tenants were added, also removed ones, which is the index of the next one.
         ///
         /// # Contract
         ///
@@ -341,15 +340,12 @@ mod pool {
         ///
         /// # Errors
         ///
-        /// In the order of the tests: [`NotEmpty`](crate::pool::AddError::NotEmpty) if the machine has or had bytes or elements; [`NoRoom`](crate::pool::AddError::NoRoom)
-        /// if memory for one more tenant is refused, or each index was given. The machine is handed
-        /// back with the error.
+        /// In the order of the tests: [`NotEmpty`](crate::pool::AddError::NotEmpty) if the machine has or had bytes or elements; [`NoRoom`](crate::pool::AddError::NoRoom) if memory for one more tenant is refused, or each index was given. The machine is handed back with the error.
         ///
         /// # Contract
         ///
         /// ```text
-        /// ensures added: IfOk result
-        ///     (λ index. (index ≡ length self.old.machines)
+        /// ensures added: IfOk result (λ index. (index ≡ length self.old.machines)
         ///     × AddsTenant self.old machine.entry self.new)
         /// ensures refused: IfErr result (λ refusal. IsAddRefusal machine.entry refusal.0)
         /// ensures same: IfErr result
@@ -401,8 +397,7 @@ mod pool {
         ///
         /// # Errors
         ///
-        /// In the order of the tests: `NoTenant` if no tenant has the index; `OutOfMemory` if memory for
-        /// some of the slots is refused. Then none more is reserved.
+        /// In the order of the tests: `NoTenant` if no tenant has the index; `OutOfMemory` if memory for some of the slots is refused. Then none more is reserved.
         ///
         /// # Contract
         ///
@@ -420,13 +415,12 @@ mod pool {
             self.tenants.reserve(index, slots)
         }
 
-        /// Reserves memory for so many elements in all of a table of a tenant, those that are there
-        /// included, as `Machine::reserve_elements` does, with its replies. What is reserved counts within
-        /// no cap.
+        /// Reserves memory for so many elements in all of a table of a tenant, those there included, as
+        /// `Machine::reserve_elements` does, with its replies. What is reserved counts within no cap.
         ///
         /// # Errors
         ///
-        /// [`NoTenant`](crate::pool::PoolError::NoTenant) if no tenant has the index, and no other. Then nothing has changed.
+        /// [`NoTenant`](crate::pool::PoolError::NoTenant) if no tenant has the index, and no other; then nothing has changed.
         ///
         /// # Contract
         ///
@@ -458,8 +452,7 @@ mod pool {
         ///
         /// # Errors
         ///
-        /// In the order of the tests: [`NoTenant`](crate::pool::PoolError::NoTenant) if no tenant has the index; [`OutOfMemory`](crate::pool::PoolError::OutOfMemory) if memory
-        /// for the replies is refused. Then no call was executed.
+        /// In the order of the tests: [`NoTenant`](crate::pool::PoolError::NoTenant) if no tenant has the index; [`OutOfMemory`](crate::pool::PoolError::OutOfMemory) if memory for the replies is refused. Then no call was executed.
         ///
         /// # Contract
         ///
@@ -483,14 +476,12 @@ mod pool {
         ///
         /// # Errors
         ///
-        /// In the order of the tests: `NoTenant` if no tenant has the index; `TooManyCalls` if there are
-        /// more calls than the capacity of `replies`. Then no call was executed, and the replies stay.
+        /// In the order of the tests: `NoTenant` if no tenant has the index; `TooManyCalls` if there are more calls than the capacity of `replies`. Then no call was executed, and the replies stay.
         ///
         /// # Contract
         ///
         /// ```text
-        /// ensures ran: OnOk result
-        ///     (RunsTenant self.old index calls.now replies.new.items self.new)
+        /// ensures ran: OnOk result (RunsTenant self.old index calls.now replies.new.items self.new)
         /// ensures no_tenant: IsErrOf result RunIntoError.NoTenant
         ///     ↔ (machine_of self.old index ≡ None)
         /// ensures too_many: IsErrOf result RunIntoError.TooManyCalls
@@ -519,7 +510,7 @@ mod pool {
         ///
         /// # Errors
         ///
-        /// [`NoTenant`](crate::pool::PoolError::NoTenant) if no tenant has the index, and no other. Then no call was executed.
+        /// [`NoTenant`](crate::pool::PoolError::NoTenant) if no tenant has the index, and no other; then nothing has changed.
         ///
         /// # Contract
         ///
@@ -554,6 +545,10 @@ mod pool {
 
         /// Executes a call that asks no limiter, so that none is made, and what is held stays.
         ///
+        /// # Errors
+        ///
+        /// [`NoTenant`](crate::pool::PoolError::NoTenant) if no tenant has the index, and no other; then nothing has changed.
+        ///
         /// # Contract
         ///
         /// ```text
@@ -579,7 +574,7 @@ mod pool {
         ///
         /// # Errors
         ///
-        /// [`NoTenant`](crate::pool::PoolError::NoTenant) if no tenant has the index, and no other. Then nothing was written.
+        /// [`NoTenant`](crate::pool::PoolError::NoTenant) if no tenant has the index, and no other; then nothing has changed.
         ///
         /// # Contract
         ///
@@ -683,13 +678,10 @@ mod pool {
             self.held_by_all
         }
 
-        /// What a tenant's machine has.
-        ///
         /// # Contract
         ///
         /// ```text
-        /// ensures: result
-        ///     ≡ option_map (λ s. amounts_of (total s)) (machine_of self.now index)
+        /// ensures: result ≡ option_map (λ s. amounts_of (total s)) (machine_of self.now index)
         /// ```
         ///
         /// Definitions: [`amounts_of`](crate::specs::meter::CappedSpecs#amounts_of), [`total`](crate::specs::machine::StateSpecs#total), [`machine_of`](crate::specs::budget::PoolSpecs#machine_of).
@@ -702,8 +694,9 @@ mod pool {
 mod tenant {
     //! One machine of a pool with the amounts it has, the calls on it, and its limiter, the tenant.
 
+    use crate::proved::budget::error::{PoolError, RunIntoError};
     use crate::proved::machine::{
-        Call, Machine, Replies, Reply, SlotCounts, TooManyCalls, run_into_lending, run_lending,
+        Call, Machine, Replies, Reply, SlotCounts, run_into_lending, run_lending,
     };
     use crate::proved::meter::{Amounts, CappedLimiter, Holdings, Kind, ResourceLimiterRef};
     use crate::rattle::Vec;
@@ -743,8 +736,6 @@ mod tenant {
             }
         }
 
-        /// What all tenants hold.
-        ///
         /// # Contract
         ///
         /// ```text
@@ -832,6 +823,10 @@ mod tenant {
     impl<'r> CountedMachine<'r> {
         /// Reserves so many more slots. What the machine has stays, so no tenant holds it.
         ///
+        /// # Errors
+        ///
+        /// `AllocError` if memory for some of it is refused; then no more is reserved.
+        ///
         /// # Contract
         ///
         /// ```text
@@ -845,8 +840,7 @@ mod tenant {
             self.machine.reserve(slots)
         }
 
-        /// Reserves memory for so many elements in all of a table. What the machine has stays, so no
-        /// tenant holds it.
+        /// Reserves memory for so many elements in all of a table. No tenant holds it, as at `reserve`.
         ///
         /// # Contract
         ///
@@ -869,7 +863,8 @@ mod tenant {
         /// requires part: IsPart caps all.old self.old
         /// ensures run: IfOk result (λ replies. RunsAsPart caps all.old self.old calls.now
         ///     replies.items self.new all.new)
-        /// ensures err: OnErr result ((self.new ≡ self.old) × (all.new ≡ all.old))
+        /// ensures err: IfErr result (λ error. (error ≡ PoolError.OutOfMemory)
+        ///     × (self.new ≡ self.old) × (all.new ≡ all.old))
         /// ```
         ///
         /// Definitions: [`IsPart`](crate::specs::budget::PoolSpecs#IsPart), [`RunsAsPart`](crate::specs::budget::PoolSpecs#RunsAsPart).
@@ -879,7 +874,7 @@ mod tenant {
             calls: &[Call],
             caps: Amounts,
             all: &mut Amounts,
-        ) -> Result<Vec<Reply>, AllocError> {
+        ) -> Result<Vec<Reply>, PoolError> {
             let mut tenant = Tenant::new(caps, *all, self.held);
             let replies = run_lending(&mut self.machine, calls, &mut tenant)?;
             tenant.leave(&mut self.held, all);
@@ -888,15 +883,22 @@ mod tenant {
 
         /// Executes calls, as `run`, but puts their replies into memory that is there.
         ///
+        /// # Errors
+        ///
+        /// In the order of the tests: `NoTenant` if no tenant has the index; `TooManyCalls` if there are more calls than the capacity of `replies`. Then no call was executed, and the replies stay.
+        ///
         /// # Contract
         ///
         /// ```text
         /// requires part: IsPart caps all.old self.old
         /// ensures run: OnOk result (RunsAsPart caps all.old self.old calls.now replies.new.items
         ///     self.new all.new)
-        /// ensures accepted: IsOk result ↔ (length calls.now ≤ replies.old.capacity)
-        /// ensures err: OnErr result ((self.new ≡ self.old) × (all.new ≡ all.old)
-        ///     × (replies.new ≡ replies.old))
+        /// ensures too_many: IsErrOf result RunIntoError.TooManyCalls
+        ///     → (replies.old.capacity < length calls.now)
+        /// ensures accepted: OnOk result (length calls.now ≤ replies.old.capacity)
+        /// ensures err: IfErr result (λ error. (error ≡ RunIntoError.TooManyCalls)
+        ///     × (self.new ≡ self.old) × (all.new ≡ all.old))
+        /// ensures same: OnErr result (replies.new ≡ replies.old)
         /// ensures capacity: replies.new.capacity ≡ replies.old.capacity
         /// ```
         ///
@@ -908,7 +910,7 @@ mod tenant {
             caps: Amounts,
             all: &mut Amounts,
             replies: &mut Replies,
-        ) -> Result<(), TooManyCalls> {
+        ) -> Result<(), RunIntoError> {
             let mut tenant = Tenant::new(caps, *all, self.held);
             run_into_lending(&mut self.machine, calls, &mut tenant, replies)?;
             tenant.leave(&mut self.held, all);
@@ -936,8 +938,7 @@ mod tenant {
             reply
         }
 
-        /// Writes bytes over those of a memory, which asks no limiter. What the machine has stays, so no
-        /// tenant holds it.
+        /// Writes bytes over those of a memory, which asks no limiter. What the machine has stays.
         ///
         /// # Contract
         ///
@@ -1107,8 +1108,6 @@ mod tenants {
             }
         }
 
-        /// How many indices were given.
-        ///
         /// # Contract
         ///
         /// ```text
@@ -1133,8 +1132,6 @@ mod tenants {
             is_own_place(&self.indices, index)
         }
 
-        /// The machine at an index, if there is one.
-        ///
         /// # Contract
         ///
         /// ```text
@@ -1152,8 +1149,7 @@ mod tenants {
         ///
         /// ```text
         /// ensures added: OnOk result (self.new ≡ self.old ++ Some machine.entry ∷ [])
-        /// ensures refused: IfErr result
-        ///     (λ back. (back ≡ machine.entry) × (self.new ≡ self.old))
+        /// ensures refused: IfErr result (λ back. (back ≡ machine.entry) × (self.new ≡ self.old))
         /// ```
         #[inline]
         pub(crate) fn push(
@@ -1192,6 +1188,10 @@ mod tenants {
 
         /// Reserves so many more slots of the machine at an index.
         ///
+        /// # Errors
+        ///
+        /// In the order of the tests: `NoTenant` if no tenant has the index; `OutOfMemory` if memory for some of the slots is refused. Then none more is reserved.
+        ///
         /// # Contract
         ///
         /// ```text
@@ -1216,8 +1216,7 @@ mod tenants {
             Ok(())
         }
 
-        /// Reserves memory for so many elements in all of a table of the machine at an index, if there is
-        /// one.
+        /// Reserves memory for so many elements in all of a table of the machine at an index, if any.
         ///
         /// # Contract
         ///
@@ -1241,6 +1240,10 @@ mod tenants {
 
         /// Executes calls on the machine at an index, under its limiter in a pool with these caps, whose
         /// tenants hold `all`, which becomes what they hold afterwards.
+        ///
+        /// # Errors
+        ///
+        /// In the order of the tests: [`NoTenant`](crate::pool::PoolError::NoTenant) if no tenant has the index; [`OutOfMemory`](crate::pool::PoolError::OutOfMemory) if memory for the replies is refused. Then no call was executed.
         ///
         /// # Contract
         ///
@@ -1267,11 +1270,14 @@ mod tenants {
                 return Err(PoolError::NoTenant);
             };
             let machine = &mut self.machines[place];
-            let replies = machine.run(calls, caps, all)?;
-            Ok(replies)
+            machine.run(calls, caps, all)
         }
 
         /// Executes calls, as `run`, but puts their replies into memory that is there.
+        ///
+        /// # Errors
+        ///
+        /// In the order of the tests: `NoTenant` if no tenant has the index; `TooManyCalls` if there are more calls than the capacity of `replies`. Then no call was executed, and the replies stay.
         ///
         /// # Contract
         ///
@@ -1303,12 +1309,10 @@ mod tenants {
                 return Err(RunIntoError::NoTenant);
             };
             let counted = &mut self.machines[place];
-            counted.run_into(calls, caps, all, replies)?;
-            Ok(())
+            counted.run_into(calls, caps, all, replies)
         }
 
-        /// Executes one call on the machine at an index, if there is one, as `run` executes a list of
-        /// it alone.
+        /// Executes one call on the machine at an index, if any, as `run` executes a list of it alone.
         ///
         /// # Contract
         ///

@@ -110,8 +110,7 @@ ensures: result ≡ vector.shuffle a b s
 
 Definitions: [`shuffle`](crate::specs::lanewise::VectorTableSpecs#shuffle).
 "#### };
-    (meter ResourceLimiter.memory_grow_failed) => { r####"A memory was permitted to grow and did not, because of this error. After `Ok(())` the call
-returns this error.
+    (meter ResourceLimiter.memory_grow_failed) => { r####"A permitted growth of a memory failed by this error, which the call returns after `Ok(())`.
 
 # Errors
 
@@ -141,8 +140,7 @@ ensures asked: rules.asked self.old
     result self.new
 ```
 "#### };
-    (meter ResourceLimiter.table_grow_failed) => { r####"A table was permitted to grow and did not, because of this error. After `Ok(())` the call
-returns this error.
+    (meter ResourceLimiter.table_grow_failed) => { r####"A permitted growth of a table failed by this error, which the call returns after `Ok(())`.
 
 # Errors
 
@@ -237,40 +235,37 @@ invariant = λ m. IsSized m.ty (length m.buffer.bytes)
 Definitions: [`MemoryValue`](crate::specs::store::MemorySpecs#MemoryValue), [`memory_of`](crate::specs::store::MemorySpecs#memory_of), [`IsSized`](crate::specs::store::MemorySpecs#IsSized).
 "#### };
     (store LinearMemory.copy) => { r####"Copies `len` bytes of another memory, from `src` on, over those of a memory from `dst` on.
-
 Core specification, memory.copy of two memories.
 
 # Errors
 
-Those of `fill`, if a range ends past its memory.
+In the order of the tests: [`OutOfBoundsAccess`](crate::MemoryError::OutOfBoundsAccess) if a range ends past its memory or segment; [`OutOfFuel`](crate::MemoryError::OutOfFuel), which is tested also if no byte is written. Then no byte is written, and no fuel taken.
 
 # Contract
 
 ```text
 ensures: WritesMemoryRange (byte_copy_of dst src len src_memory.now.bytes)
-    (metered dst_memory.old (meter_at_entry fuel.entry)) result
-    (metered dst_memory.new (meter_at_exit fuel.exit))
+    (metered dst_memory.old (at_entry fuel.entry)) result
+    (metered dst_memory.new (at_exit fuel.exit))
 ```
 
-Definitions: [`WritesMemoryRange`](crate::specs::store::MemorySpecs#WritesMemoryRange), [`byte_copy_of`](crate::specs::store::MemorySpecs#byte_copy_of), [`metered`](crate::specs::store::GrowthSpecs#metered), [`meter_at_entry`](crate::specs::meter::MeterSpecs#meter_at_entry), [`meter_at_exit`](crate::specs::meter::MeterSpecs#meter_at_exit).
+Definitions: [`WritesMemoryRange`](crate::specs::store::MemorySpecs#WritesMemoryRange), [`byte_copy_of`](crate::specs::store::MemorySpecs#byte_copy_of), [`metered`](crate::specs::store::GrowthSpecs#metered), [`at_entry`](crate::specs::meter::MeterSpecs#meter_at_entry), [`at_exit`](crate::specs::meter::MeterSpecs#meter_at_exit).
 "#### };
     (store LinearMemory.copy_within) => { r####"Copies `len` bytes from `src` on over those from `dst` on: the old ones if they overlap.
-
 Core specification, memory.copy within a memory.
 
 # Errors
 
-Those of `fill`, if a range ends past the memory.
+In the order of the tests: [`OutOfBoundsAccess`](crate::MemoryError::OutOfBoundsAccess) if a range ends past its memory or segment; [`OutOfFuel`](crate::MemoryError::OutOfFuel), which is tested also if no byte is written. Then no byte is written, and no fuel taken.
 
 # Contract
 
 ```text
 ensures: WritesMemoryRange (byte_copy_of dst src len self.old.bytes)
-    (metered self.old (meter_at_entry fuel.entry)) result
-    (metered self.new (meter_at_exit fuel.exit))
+    (metered self.old (at_entry fuel.entry)) result (metered self.new (at_exit fuel.exit))
 ```
 
-Definitions: [`WritesMemoryRange`](crate::specs::store::MemorySpecs#WritesMemoryRange), [`byte_copy_of`](crate::specs::store::MemorySpecs#byte_copy_of), [`metered`](crate::specs::store::GrowthSpecs#metered), [`meter_at_entry`](crate::specs::meter::MeterSpecs#meter_at_entry), [`meter_at_exit`](crate::specs::meter::MeterSpecs#meter_at_exit).
+Definitions: [`WritesMemoryRange`](crate::specs::store::MemorySpecs#WritesMemoryRange), [`byte_copy_of`](crate::specs::store::MemorySpecs#byte_copy_of), [`metered`](crate::specs::store::GrowthSpecs#metered), [`at_entry`](crate::specs::meter::MeterSpecs#meter_at_entry), [`at_exit`](crate::specs::meter::MeterSpecs#meter_at_exit).
 "#### };
     (store LinearMemory.data) => { r####"The bytes.
 
@@ -317,27 +312,23 @@ ensures subtype: IsSubtype result self.now.ty
 Definitions: [`dynamic_type`](crate::specs::store::MemorySpecs#dynamic_type), [`IsSubtype`](crate::specs::store::MemorySpecs#IsSubtype).
 "#### };
     (store LinearMemory.fill) => { r####"Fills `len` bytes from `dst` on with a value. It is charged as a table's `fill`, by bytes.
-
 Core specification, memory.fill.
 
 # Errors
 
-In the order of the tests: [`OutOfBoundsAccess`](crate::MemoryError::OutOfBoundsAccess) if they end past the memory; [`OutOfFuel`](crate::MemoryError::OutOfFuel),
-which is tested also if no byte is filled. Then no byte is written, and no fuel taken.
+In the order of the tests: [`OutOfBoundsAccess`](crate::MemoryError::OutOfBoundsAccess) if a range ends past its memory or segment; [`OutOfFuel`](crate::MemoryError::OutOfFuel), which is tested also if no byte is written. Then no byte is written, and no fuel taken.
 
 # Contract
 
 ```text
 ensures: WritesMemoryRange (byte_filling_of dst value len)
-    (metered self.old (meter_at_entry fuel.entry)) result
-    (metered self.new (meter_at_exit fuel.exit))
+    (metered self.old (at_entry fuel.entry)) result (metered self.new (at_exit fuel.exit))
 ```
 
-Definitions: [`WritesMemoryRange`](crate::specs::store::MemorySpecs#WritesMemoryRange), [`byte_filling_of`](crate::specs::store::MemorySpecs#byte_filling_of), [`metered`](crate::specs::store::GrowthSpecs#metered), [`meter_at_entry`](crate::specs::meter::MeterSpecs#meter_at_entry), [`meter_at_exit`](crate::specs::meter::MeterSpecs#meter_at_exit).
+Definitions: [`WritesMemoryRange`](crate::specs::store::MemorySpecs#WritesMemoryRange), [`byte_filling_of`](crate::specs::store::MemorySpecs#byte_filling_of), [`metered`](crate::specs::store::GrowthSpecs#metered), [`at_entry`](crate::specs::meter::MeterSpecs#meter_at_entry), [`at_exit`](crate::specs::meter::MeterSpecs#meter_at_exit).
 "#### };
     (store LinearMemory.grow) => { r####"Grows by `additional` pages of zeros, and returns the old size in pages. A growth by 0 pages
-changes nothing and asks no limiter. Bytes of a borrowed buffer past the new size stay as
-they are.
+changes nothing and asks no limiter. Bytes of a borrowed buffer past the new size stay.
 
 # Errors
 
@@ -361,40 +352,35 @@ The limiter is notified of the last three, and if it returns an error, the error
 ```text
 ensures loan: KeepsLoan limiter.old limiter.new
 ensures grown: GrowsMemory (optional_rules L.rules) additional
-    (metered_value self.old (meter_at_entry fuel.entry) (lent_limiter limiter.old)) result
-    (metered_value self.new (meter_at_exit fuel.exit) (lent_limiter limiter.new))
+    (metered_value self.old (at_entry fuel.entry) (lent_limiter limiter.old)) result
+    (metered_value self.new (at_exit fuel.exit) (lent_limiter limiter.new))
 ```
 
-Definitions: [`KeepsLoan`](crate::specs::meter::LimiterSpecs#KeepsLoan), [`GrowsMemory`](crate::specs::store::MemorySpecs#GrowsMemory), [`optional_rules`](crate::specs::meter::LimiterSpecs#optional_rules), [`metered_value`](crate::specs::store::GrowthSpecs#metered_value), [`meter_at_entry`](crate::specs::meter::MeterSpecs#meter_at_entry), [`lent_limiter`](crate::specs::meter::LimiterSpecs#lent_limiter), [`meter_at_exit`](crate::specs::meter::MeterSpecs#meter_at_exit).
+Definitions: [`KeepsLoan`](crate::specs::meter::LimiterSpecs#KeepsLoan), [`GrowsMemory`](crate::specs::store::MemorySpecs#GrowsMemory), [`optional_rules`](crate::specs::meter::LimiterSpecs#optional_rules), [`metered_value`](crate::specs::store::GrowthSpecs#metered_value), [`at_entry`](crate::specs::meter::MeterSpecs#meter_at_entry), [`lent_limiter`](crate::specs::meter::LimiterSpecs#lent_limiter), [`at_exit`](crate::specs::meter::MeterSpecs#meter_at_exit).
 
 `L` is the type of the limiter, a [`ResourceLimiter`](crate::machine::ResourceLimiter#contract).
 "#### };
     (store LinearMemory.init) => { r####"Copies `len` bytes of a data segment, from `src` on, over the bytes from `dst` on. A segment
-that was dropped has no bytes.
-
-Core specification, memory.init.
+that was dropped has no bytes. Core specification, memory.init.
 
 # Errors
 
-Those of `fill`, if a range ends past the segment or the memory.
+In the order of the tests: [`OutOfBoundsAccess`](crate::MemoryError::OutOfBoundsAccess) if a range ends past its memory or segment; [`OutOfFuel`](crate::MemoryError::OutOfFuel), which is tested also if no byte is written. Then no byte is written, and no fuel taken.
 
 # Contract
 
 ```text
 ensures: WritesMemoryRange (byte_copy_of dst src len segment.now)
-    (metered self.old (meter_at_entry fuel.entry)) result
-    (metered self.new (meter_at_exit fuel.exit))
+    (metered self.old (at_entry fuel.entry)) result (metered self.new (at_exit fuel.exit))
 ```
 
-Definitions: [`WritesMemoryRange`](crate::specs::store::MemorySpecs#WritesMemoryRange), [`byte_copy_of`](crate::specs::store::MemorySpecs#byte_copy_of), [`metered`](crate::specs::store::GrowthSpecs#metered), [`meter_at_entry`](crate::specs::meter::MeterSpecs#meter_at_entry), [`meter_at_exit`](crate::specs::meter::MeterSpecs#meter_at_exit).
+Definitions: [`WritesMemoryRange`](crate::specs::store::MemorySpecs#WritesMemoryRange), [`byte_copy_of`](crate::specs::store::MemorySpecs#byte_copy_of), [`metered`](crate::specs::store::GrowthSpecs#metered), [`at_entry`](crate::specs::meter::MeterSpecs#meter_at_entry), [`at_exit`](crate::specs::meter::MeterSpecs#meter_at_exit).
 "#### };
     (store LinearMemory.new) => { r####"A memory of zeros, at the minimum of its type. It takes no fuel.
 
 # Errors
 
-In the order of the tests: [`MinimumSizeOverflow`](crate::MemoryError::MinimumSizeOverflow) if the minimum has 2^64 bytes or more;
-[`ResourceLimiterDeniedAllocation`](crate::MemoryError::ResourceLimiterDeniedAllocation) if the limiter doesn't permit it; [`OutOfSystemMemory`](crate::MemoryError::OutOfSystemMemory), of
-which the limiter is notified.
+In the order of the tests: [`MinimumSizeOverflow`](crate::MemoryError::MinimumSizeOverflow) if the minimum has 2^64 bytes or more; [`ResourceLimiterDeniedAllocation`](crate::MemoryError::ResourceLimiterDeniedAllocation) if the limiter doesn't permit it; [`OutOfSystemMemory`](crate::MemoryError::OutOfSystemMemory), of which the limiter is notified.
 
 # Contract
 
@@ -409,14 +395,11 @@ Definitions: [`KeepsLoan`](crate::specs::meter::LimiterSpecs#KeepsLoan), [`Makes
 `L` is the type of the limiter, a [`ResourceLimiter`](crate::machine::ResourceLimiter#contract).
 "#### };
     (store LinearMemory.new_static) => { r####"A memory of zeros at the front of a borrowed buffer, at the minimum of its type. It takes no
-fuel and allocates nothing, and the bytes past the minimum stay as they are.
+fuel and no memory, and the bytes past the minimum stay. After an error the loan has ended.
 
 # Errors
 
-In the order of the tests: [`MinimumSizeOverflow`](crate::MemoryError::MinimumSizeOverflow) if the minimum has 2^64 bytes or more;
-[`ResourceLimiterDeniedAllocation`](crate::MemoryError::ResourceLimiterDeniedAllocation) if the limiter doesn't permit it;
-[`InvalidStaticBufferSize`](crate::MemoryError::InvalidStaticBufferSize) if the buffer is shorter than the minimum, of which the limiter is
-notified. After an error the loan has ended, and the bytes of the buffer are unchanged.
+In the order of the tests: [`MinimumSizeOverflow`](crate::MemoryError::MinimumSizeOverflow) if the minimum has 2^64 bytes or more; [`ResourceLimiterDeniedAllocation`](crate::MemoryError::ResourceLimiterDeniedAllocation) if the limiter doesn't permit it; [`InvalidStaticBufferSize`](crate::MemoryError::InvalidStaticBufferSize) if the region is shorter than the minimum, of which the limiter is notified. After an error the bytes of the region are unchanged.
 
 # Contract
 
@@ -440,8 +423,7 @@ Definitions: [`KeepsLoan`](crate::specs::meter::LimiterSpecs#KeepsLoan), [`Makes
 
 ```text
 ensures ok: OnOk result (at self.now.bytes offset (length buffer.old) ≡ Some buffer.new)
-ensures err: IfErr result
-    (λ error. (error ≡ MemoryError.OutOfBoundsAccess)
+ensures err: IfErr result (λ error. (error ≡ MemoryError.OutOfBoundsAccess)
     × (at self.now.bytes offset (length buffer.old) ≡ None) × (buffer.new ≡ buffer.old))
 ```
 
@@ -495,35 +477,32 @@ Definitions: [`TableValue`](crate::specs::store::TableSpecs#TableValue), [`IsSiz
 
 # Errors
 
-In the order of the tests: [`ElementTypeMismatch`](crate::TableError::ElementTypeMismatch) if the types differ; [`CopyOutOfBounds`](crate::TableError::CopyOutOfBounds) if a
-range ends past its table; [`OutOfFuel`](crate::TableError::OutOfFuel), which is tested also if no element is copied.
+In the order of the tests: [`ElementTypeMismatch`](crate::TableError::ElementTypeMismatch) if the types differ; [`CopyOutOfBounds`](crate::TableError::CopyOutOfBounds) if a range ends past its table; [`OutOfFuel`](crate::TableError::OutOfFuel), which is tested also if no element is copied.
 
 # Contract
 
 ```text
 ensures: WritesTable (copy_of dst src len src_table.now)
-    (metered dst_table.old (meter_at_entry fuel.entry)) result
-    (metered dst_table.new (meter_at_exit fuel.exit))
+    (metered dst_table.old (at_entry fuel.entry)) result
+    (metered dst_table.new (at_exit fuel.exit))
 ```
 
-Definitions: [`WritesTable`](crate::specs::store::TableSpecs#WritesTable), [`copy_of`](crate::specs::store::TableSpecs#copy_of), [`metered`](crate::specs::store::GrowthSpecs#metered), [`meter_at_entry`](crate::specs::meter::MeterSpecs#meter_at_entry), [`meter_at_exit`](crate::specs::meter::MeterSpecs#meter_at_exit).
+Definitions: [`WritesTable`](crate::specs::store::TableSpecs#WritesTable), [`copy_of`](crate::specs::store::TableSpecs#copy_of), [`metered`](crate::specs::store::GrowthSpecs#metered), [`at_entry`](crate::specs::meter::MeterSpecs#meter_at_entry), [`at_exit`](crate::specs::meter::MeterSpecs#meter_at_exit).
 "#### };
     (store Table.copy_within) => { r####"Copies `len` elements from `src` on over those from `dst` on: the old ones if they overlap.
 
 # Errors
 
-In the order of the tests: [`CopyOutOfBounds`](crate::TableError::CopyOutOfBounds) if a range ends past the table; [`OutOfFuel`](crate::TableError::OutOfFuel),
-which is tested also if no element is copied.
+In the order of the tests: [`CopyOutOfBounds`](crate::TableError::CopyOutOfBounds) if a range ends past the table; [`OutOfFuel`](crate::TableError::OutOfFuel), which is tested also if no element is copied.
 
 # Contract
 
 ```text
 ensures: WritesTable (copy_of dst src len self.old)
-    (metered self.old (meter_at_entry fuel.entry)) result
-    (metered self.new (meter_at_exit fuel.exit))
+    (metered self.old (at_entry fuel.entry)) result (metered self.new (at_exit fuel.exit))
 ```
 
-Definitions: [`WritesTable`](crate::specs::store::TableSpecs#WritesTable), [`copy_of`](crate::specs::store::TableSpecs#copy_of), [`metered`](crate::specs::store::GrowthSpecs#metered), [`meter_at_entry`](crate::specs::meter::MeterSpecs#meter_at_entry), [`meter_at_exit`](crate::specs::meter::MeterSpecs#meter_at_exit).
+Definitions: [`WritesTable`](crate::specs::store::TableSpecs#WritesTable), [`copy_of`](crate::specs::store::TableSpecs#copy_of), [`metered`](crate::specs::store::GrowthSpecs#metered), [`at_entry`](crate::specs::meter::MeterSpecs#meter_at_entry), [`at_exit`](crate::specs::meter::MeterSpecs#meter_at_exit).
 "#### };
     (store Table.dynamic_ty) => { r####"The type that it was made with, with the present size as its minimum: a subtype of it.
 
@@ -546,28 +525,25 @@ Definitions: [`dynamic_type`](crate::specs::store::TableSpecs#dynamic_type), [`I
 
 ```text
 ensures: WritesTable (filling_of dst val len)
-    (metered self.old (meter_at_entry fuel.entry)) result
-    (metered self.new (meter_at_exit fuel.exit))
+    (metered self.old (at_entry fuel.entry)) result (metered self.new (at_exit fuel.exit))
 ```
 
-Definitions: [`WritesTable`](crate::specs::store::TableSpecs#WritesTable), [`filling_of`](crate::specs::store::TableSpecs#filling_of), [`metered`](crate::specs::store::GrowthSpecs#metered), [`meter_at_entry`](crate::specs::meter::MeterSpecs#meter_at_entry), [`meter_at_exit`](crate::specs::meter::MeterSpecs#meter_at_exit).
+Definitions: [`WritesTable`](crate::specs::store::TableSpecs#WritesTable), [`filling_of`](crate::specs::store::TableSpecs#filling_of), [`metered`](crate::specs::store::GrowthSpecs#metered), [`at_entry`](crate::specs::meter::MeterSpecs#meter_at_entry), [`at_exit`](crate::specs::meter::MeterSpecs#meter_at_exit).
 "#### };
     (store Table.fill_raw) => { r####"Fills `len` elements from `dst` on with a reference.
 
 # Errors
 
-In the order of the tests: [`FillOutOfBounds`](crate::TableError::FillOutOfBounds) if they end past the table; [`OutOfFuel`](crate::TableError::OutOfFuel), which
-is tested also if no element is filled.
+In the order of the tests: [`FillOutOfBounds`](crate::TableError::FillOutOfBounds) if they end past the table; [`OutOfFuel`](crate::TableError::OutOfFuel), which is tested also if no element is filled.
 
 # Contract
 
 ```text
 ensures: WritesTable (raw_filling_of dst val len)
-    (metered self.old (meter_at_entry fuel.entry)) result
-    (metered self.new (meter_at_exit fuel.exit))
+    (metered self.old (at_entry fuel.entry)) result (metered self.new (at_exit fuel.exit))
 ```
 
-Definitions: [`WritesTable`](crate::specs::store::TableSpecs#WritesTable), [`raw_filling_of`](crate::specs::store::TableSpecs#raw_filling_of), [`metered`](crate::specs::store::GrowthSpecs#metered), [`meter_at_entry`](crate::specs::meter::MeterSpecs#meter_at_entry), [`meter_at_exit`](crate::specs::meter::MeterSpecs#meter_at_exit).
+Definitions: [`WritesTable`](crate::specs::store::TableSpecs#WritesTable), [`raw_filling_of`](crate::specs::store::TableSpecs#raw_filling_of), [`metered`](crate::specs::store::GrowthSpecs#metered), [`at_entry`](crate::specs::meter::MeterSpecs#meter_at_entry), [`at_exit`](crate::specs::meter::MeterSpecs#meter_at_exit).
 "#### };
     (store Table.get) => { r####"The element at an index with its type, or `None` past the end.
 
@@ -590,11 +566,11 @@ Definitions: [`element_at`](crate::specs::store::TableSpecs#element_at).
 ```text
 ensures loan: KeepsLoan limiter.old limiter.new
 ensures grown: GrowsTable (optional_rules L.rules) delta init
-    (metered_value self.old (meter_at_entry fuel.entry) (lent_limiter limiter.old)) result
-    (metered_value self.new (meter_at_exit fuel.exit) (lent_limiter limiter.new))
+    (metered_value self.old (at_entry fuel.entry) (lent_limiter limiter.old)) result
+    (metered_value self.new (at_exit fuel.exit) (lent_limiter limiter.new))
 ```
 
-Definitions: [`KeepsLoan`](crate::specs::meter::LimiterSpecs#KeepsLoan), [`GrowsTable`](crate::specs::store::TableSpecs#GrowsTable), [`optional_rules`](crate::specs::meter::LimiterSpecs#optional_rules), [`metered_value`](crate::specs::store::GrowthSpecs#metered_value), [`meter_at_entry`](crate::specs::meter::MeterSpecs#meter_at_entry), [`lent_limiter`](crate::specs::meter::LimiterSpecs#lent_limiter), [`meter_at_exit`](crate::specs::meter::MeterSpecs#meter_at_exit).
+Definitions: [`KeepsLoan`](crate::specs::meter::LimiterSpecs#KeepsLoan), [`GrowsTable`](crate::specs::store::TableSpecs#GrowsTable), [`optional_rules`](crate::specs::meter::LimiterSpecs#optional_rules), [`metered_value`](crate::specs::store::GrowthSpecs#metered_value), [`at_entry`](crate::specs::meter::MeterSpecs#meter_at_entry), [`lent_limiter`](crate::specs::meter::LimiterSpecs#lent_limiter), [`at_exit`](crate::specs::meter::MeterSpecs#meter_at_exit).
 
 `L` is the type of the limiter, a [`ResourceLimiter`](crate::machine::ResourceLimiter#contract).
 "#### };
@@ -620,11 +596,11 @@ The limiter is notified of the last three, and if it returns an error, the error
 ```text
 ensures loan: KeepsLoan limiter.old limiter.new
 ensures grown: GrowsTableRaw (optional_rules L.rules) delta init
-    (metered_value self.old (meter_at_entry fuel.entry) (lent_limiter limiter.old)) result
-    (metered_value self.new (meter_at_exit fuel.exit) (lent_limiter limiter.new))
+    (metered_value self.old (at_entry fuel.entry) (lent_limiter limiter.old)) result
+    (metered_value self.new (at_exit fuel.exit) (lent_limiter limiter.new))
 ```
 
-Definitions: [`KeepsLoan`](crate::specs::meter::LimiterSpecs#KeepsLoan), [`GrowsTableRaw`](crate::specs::store::TableSpecs#GrowsTableRaw), [`optional_rules`](crate::specs::meter::LimiterSpecs#optional_rules), [`metered_value`](crate::specs::store::GrowthSpecs#metered_value), [`meter_at_entry`](crate::specs::meter::MeterSpecs#meter_at_entry), [`lent_limiter`](crate::specs::meter::LimiterSpecs#lent_limiter), [`meter_at_exit`](crate::specs::meter::MeterSpecs#meter_at_exit).
+Definitions: [`KeepsLoan`](crate::specs::meter::LimiterSpecs#KeepsLoan), [`GrowsTableRaw`](crate::specs::store::TableSpecs#GrowsTableRaw), [`optional_rules`](crate::specs::meter::LimiterSpecs#optional_rules), [`metered_value`](crate::specs::store::GrowthSpecs#metered_value), [`at_entry`](crate::specs::meter::MeterSpecs#meter_at_entry), [`lent_limiter`](crate::specs::meter::LimiterSpecs#lent_limiter), [`at_exit`](crate::specs::meter::MeterSpecs#meter_at_exit).
 
 `L` is the type of the limiter, a [`ResourceLimiter`](crate::machine::ResourceLimiter#contract).
 "#### };
@@ -633,28 +609,22 @@ Copying no items costs no fuel.
 
 # Errors
 
-In the order of the tests: [`ElementTypeMismatch`](crate::TableError::ElementTypeMismatch) if the items are of another type;
-[`InitOutOfBounds`](crate::TableError::InitOutOfBounds) if a range ends past the segment or the table; [`OutOfFuel`](crate::TableError::OutOfFuel).
+In the order of the tests: [`ElementTypeMismatch`](crate::TableError::ElementTypeMismatch) if the items are of another type; [`InitOutOfBounds`](crate::TableError::InitOutOfBounds) if a range ends past the segment or the table; [`OutOfFuel`](crate::TableError::OutOfFuel).
 
 # Contract
 
 ```text
 ensures: WritesTable (initialization_of dst src len (segment_of element.entry))
-    (metered self.old (meter_at_entry fuel.entry)) result
-    (metered self.new (meter_at_exit fuel.exit))
+    (metered self.old (at_entry fuel.entry)) result (metered self.new (at_exit fuel.exit))
 ```
 
-Definitions: [`WritesTable`](crate::specs::store::TableSpecs#WritesTable), [`initialization_of`](crate::specs::store::TableSpecs#initialization_of), [`segment_of`](crate::specs::store::SegmentSpecs#segment_of), [`metered`](crate::specs::store::GrowthSpecs#metered), [`meter_at_entry`](crate::specs::meter::MeterSpecs#meter_at_entry), [`meter_at_exit`](crate::specs::meter::MeterSpecs#meter_at_exit).
+Definitions: [`WritesTable`](crate::specs::store::TableSpecs#WritesTable), [`initialization_of`](crate::specs::store::TableSpecs#initialization_of), [`segment_of`](crate::specs::store::SegmentSpecs#segment_of), [`metered`](crate::specs::store::GrowthSpecs#metered), [`at_entry`](crate::specs::meter::MeterSpecs#meter_at_entry), [`at_exit`](crate::specs::meter::MeterSpecs#meter_at_exit).
 "#### };
-    (store Table.new) => { r####"A table at the minimum of its type, each element of which is the given reference. It takes
-no fuel.
+    (store Table.new) => { r####"A table of one reference, at the minimum of its type. It takes no fuel.
 
 # Errors
 
-In the order of the tests: [`ElementTypeMismatch`](crate::TableError::ElementTypeMismatch) if the reference is of another type;
-[`MinimumSizeOverflow`](crate::TableError::MinimumSizeOverflow) if `usize` has 32 bits and the minimum more;
-[`ResourceLimiterDeniedAllocation`](crate::TableError::ResourceLimiterDeniedAllocation) if the limiter doesn't permit it; [`OutOfSystemMemory`](crate::TableError::OutOfSystemMemory), of
-which the limiter is notified.
+In the order of the tests: [`ElementTypeMismatch`](crate::TableError::ElementTypeMismatch) if the reference is of another type; [`MinimumSizeOverflow`](crate::TableError::MinimumSizeOverflow) if `usize` has 32 bits and the minimum more; [`ResourceLimiterDeniedAllocation`](crate::TableError::ResourceLimiterDeniedAllocation) if the limiter doesn't permit it; [`OutOfSystemMemory`](crate::TableError::OutOfSystemMemory), of which the limiter is notified.
 
 # Contract
 
@@ -672,8 +642,7 @@ Definitions: [`KeepsLoan`](crate::specs::meter::LimiterSpecs#KeepsLoan), [`Makes
 
 # Errors
 
-In the order of the tests: [`ElementTypeMismatch`](crate::TableError::ElementTypeMismatch) if the reference is of another type;
-[`SetOutOfBounds`](crate::TableError::SetOutOfBounds) past the end.
+In the order of the tests: [`ElementTypeMismatch`](crate::TableError::ElementTypeMismatch) if the reference is of another type; [`SetOutOfBounds`](crate::TableError::SetOutOfBounds) past the end.
 
 # Contract
 

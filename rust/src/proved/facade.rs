@@ -9,7 +9,6 @@ pub use crate::proved::machine::{
 
 pub mod simd {
     //! The vector instructions, the loads and stores of vectors, and the lane types and indices.
-    //!
     //! Upstream: `wasmi_core::simd`.
 
     // Lanes, their indices, and vectors as lanes.
@@ -88,9 +87,7 @@ pub mod wasm {
     //!
     //! A load or store without `_at` accesses the address `ptr + offset`, one with `_at` the given
     //! address; addresses count bytes. The only error of all 38 is `TrapCode::MemoryOutOfBounds`, if
-    //! the access ends past the end of the memory; then nothing is written.
-    //!
-    //! Upstream: `wasmi_core::wasm`.
+    //! the access ends past the memory; then nothing is written. Upstream: `wasmi_core::wasm`.
 
     // Loads and stores.
     pub use crate::proved::accesses::wasm::{

@@ -14,8 +14,7 @@ mod command {
     use crate::proved::types::{IndexType, RefType};
     use crate::rattle::ArrayExt;
 
-    /// The call of a kind, each part of which is what an operand writes, or is made of what operands
-    /// write under these names.
+    /// The call of a kind: each part is what an operand writes, or is made of what has these names.
     macro_rules! call {
     ($operands:expr, $count:ident => $kind:ident { $($part:ident),+ }) => {
         call!($operands, $count($($part),+) => $kind { $($part),+ })
@@ -27,8 +26,6 @@ mod command {
     }};
 }
 
-    /// The call of a command with this name and these operands.
-    ///
     /// # Contract
     ///
     /// ```text
@@ -756,8 +753,7 @@ pub mod laws {
     pub fn written_texts_have_no_bad_line() {}
 }
 mod script {
-    //! The script that a text writes: how each line adds to its header or to its calls by parts, and
-    //! the parser.
+    //! The script that a text writes: how a line adds to its header or its calls by parts; the parser.
 
     use crate::proved::grammar::command::command;
     use crate::proved::grammar::error::ParseError;
@@ -848,8 +844,7 @@ mod script {
         /// # Contract
         ///
         /// ```text
-        /// ensures: OnOk result
-        ///     (self.new ≡ record self.old { calls = self.old.calls ++ call ∷ [] })
+        /// ensures: OnOk result (self.new ≡ record self.old { calls = self.old.calls ++ call ∷ [] })
         /// ```
         #[inline]
         fn push(&mut self, call: Call) -> Result<(), AllocError> {
@@ -1181,8 +1176,7 @@ mod script {
     /// ensures script: IfOk result (WritesScript bytes.now)
     /// ensures calls: IfOk result (λ script. length (calls_of script) ≤ length bytes.now + 1)
     /// ensures refused: IfErr result (IsParseError bytes.now)
-    /// ensures line: IfErr result
-    ///     (λ error. (line : ℕ) → error ≡ ParseError.BadCommand line
+    /// ensures line: IfErr result (λ error. (line : ℕ) → error ≡ ParseError.BadCommand line
     ///     → (0 < line) × (line ≤ length bytes.now + 1))
     /// ```
     ///

@@ -136,8 +136,7 @@ mod index {
     /// `N` is a number.
     impl<const N: usize> LaneIndex for ImmLaneIdx<N> where ImmLaneIdx<N>: CountsLanes<N> {}
 
-    /// An integer with the index of one of its lanes in a vector, of which there are 128 divided by its
-    /// width.
+    /// An integer with the index of one of its lanes in a vector, which are 128 divided by its width.
     ///
     /// # Contract
     ///
@@ -499,7 +498,7 @@ mod lanes {
     /// LANES: ℕ
     /// ALL_ONES: Self.Item
     /// ALL_ZEROS: Self.Item
-    /// -- The lanes make 128 bits, there are as many indices, and all ones and all zeros are those of the item's type.
+    /// -- The lanes make 128 bits, there are as many indices, and all ones and zeros are the item's.
     /// laws: AreWholeLanes Self.Item.width LANES Self.LaneIdx.COUNT ALL_ONES ALL_ZEROS
     ///     Self.Item.ALL_ONES Self.Item.ALL_ZEROS
     /// ```

@@ -311,8 +311,7 @@ pub mod simd {
         /// # Contract
         ///
         /// ```text
-        /// ensures lanes: (i : ℕ) → i < lane_count T.width
-        ///     → lane T.width result i
+        /// ensures lanes: (i : ℕ) → i < lane_count T.width → lane T.width result i
         ///     ≡ (if nat_lt (T.at a i) (T.at b i) then 2 ^ bits T.width - 1 else 0)
         /// ensures in_range: result < 2 ^ 128
         /// ```
@@ -333,8 +332,7 @@ pub mod simd {
         }
     }
     mod words {
-        //! Sums, differences, negatives, equality and averages of lanes on the two words of a vector, whose
-        //! lanes stay where they are.
+        //! Sums, differences, negatives, equality and averages of lanes in place, on a vector's two words.
         //!
         //! What is generic in a lane type takes the highest bits of a word's lanes, the tops, from it.
         //! Lanes whose highest bit marks them as equal or as different are filled with ones.

@@ -319,11 +319,9 @@ mod calls {
         Done,
         /// The index of the memory, table, element segment, data segment or global that was made.
         Made(usize),
-        /// The value of a global or a register, or a number that `Load`, `Test` or `Extract` gives, in
-        /// the low word.
+        /// The value of a global or a register, or what `Load`, `Test` or `Extract` gives (low word).
         Value(RawVal),
-        /// The old size, of `GrowMemory` in pages, of `GrowTable` in elements, or the fuel left, of
-        /// `GetFuel`.
+        /// The old size in pages (`GrowMemory`) or elements (`GrowTable`), or the fuel left.
         Number(u64),
         /// The bytes that `Read` asked for.
         Bytes(ByteList),
@@ -412,7 +410,6 @@ mod data {
     use crate::rattle::{SliceExt, Vec};
 
     /// A data segment: the bytes that `Call::InitMemory` copies to a memory. Once dropped it has none.
-    ///
     /// Core specification, data instances.
     ///
     /// # Model
@@ -468,9 +465,7 @@ mod data {
             self.bytes.len()
         }
 
-        /// Drops the bytes, and gives their memory back.
-        ///
-        /// Core specification, data.drop.
+        /// Drops the bytes, and gives their memory back. Core specification, data.drop.
         ///
         /// # Contract
         ///
@@ -505,9 +500,7 @@ pub mod laws {
     //! What holds of all turns and runs, and is continued in `wasmi_laws`: runs in a row, what refusals
     //! keep, permissions, charges, validity, quotas and totals, lent regions, and runs that are equal.
     //! These functions do nothing: each states a law as its contract, for any limiter, of which a run
-    //! may also have none.
-    //!
-    //! Own: upstream states no laws.
+    //! may also have none. Own: upstream states no laws.
 
     use crate::proved::machine::machine::Machine;
     use crate::proved::meter::{Reserving, ResourceLimiter};
@@ -553,10 +546,9 @@ pub mod laws {
     /// exactly the growth that was asked for, or by exactly one notice, which the reply reports, and a
     /// denial by neither.
     ///
-    /// A growth is charged its price if it succeeds or fails for lack of memory, and a write over a range
-    /// of a memory or a table is charged the bytes or elements that it writes. Nothing else is charged.
-    /// The charge was left in the meter, and is taken from it. Without a limiter each question is
-    /// permitted.
+    /// A growth is charged its price if it succeeds or fails for lack of memory, and a write over a
+    /// range of a memory or a table its bytes or elements. Nothing else is charged. The charge was left
+    /// in the meter, and is taken from it. Without a limiter each question is permitted.
     ///
     /// # Contract
     ///
@@ -587,9 +579,8 @@ pub mod laws {
     pub fn fuel_balances<L: ResourceLimiter>() {}
 
     /// While metering is on, calls that don't set the fuel were charged what was left before and isn't
-    /// left after. At a rate above 0 that bounds the bytes that they have written by growing and
-    /// copying: `IsSpent` gives each turn that writes less than one fuel's worth of bytes beyond what
-    /// its charge pays for.
+    /// left after. At a rate above 0 that bounds the bytes they wrote by growing and copying: `IsSpent`
+    /// gives each turn that writes less than one fuel's worth of bytes beyond what its charge pays for.
     ///
     /// # Contract
     ///
@@ -932,7 +923,7 @@ mod machine {
         ///
         /// # Errors
         ///
-        /// `AllocError` if memory for some of them is refused. Then none more is reserved.
+        /// `AllocError` if memory for some of it is refused; then no more is reserved.
         ///
         /// # Contract
         ///
@@ -957,8 +948,7 @@ mod machine {
         /// # Contract
         ///
         /// ```text
-        /// ensures tables: ReservesElementsAt table elements self.old.tables result
-        ///     self.new.tables
+        /// ensures tables: ReservesElementsAt table elements self.old.tables result self.new.tables
         /// ensures rest: self.new ≡ with_tables self.old self.new.tables
         /// ```
         ///
@@ -989,8 +979,8 @@ mod machine {
         ///
         /// # Errors
         ///
-        /// [`FuelMeteringDisabled`](crate::FuelError::FuelMeteringDisabled) if the meter is off; [`OutOfFuel`](crate::FuelError::OutOfFuel) with the amount if less is left.
-        /// Then nothing is taken.
+        /// [`FuelMeteringDisabled`](crate::FuelError::FuelMeteringDisabled) if the meter is off.
+        /// [`OutOfFuel`](crate::FuelError::OutOfFuel) with the amount if less is left; then nothing is consumed.
         ///
         /// # Contract
         ///
@@ -1001,8 +991,7 @@ mod machine {
         /// ensures off: self.old.meter.left ≡ None
         ///     → (result ≡ Err FuelError.FuelMeteringDisabled) × (self.new ≡ self.old)
         /// ensures rest: self.new ≡ record self.old { meter = self.new.meter }
-        /// ensures balance: MatchResult result
-        ///     (λ left. (self.new.meter.left ≡ Some left)
+        /// ensures balance: MatchResult result (λ left. (self.new.meter.left ≡ Some left)
         ///     × (self.old.meter.left ≡ Some (left + amount))
         ///     × (self.new ≡ record self.old { meter = meter_after self.old.meter amount }))
         ///     (λ error. self.new ≡ self.old)
@@ -1198,10 +1187,10 @@ mod memories {
     //! What calls do to the memories of a machine, by their indices, and the replies to these calls.
 
     use crate::proved::machine::calls::{ByteList, Reply};
-    use crate::proved::machine::data::copy_of_bytes;
+    use crate::proved::machine::data::{DataSegment, copy_of_bytes};
     use crate::proved::machine::slots::{Slot, Slots};
     use crate::proved::meter::{Fuel, MemoryError, ResourceLimiter, ResourceLimiterRef};
-    use crate::proved::ops::{StoreLaneOp, StoreOp};
+    use crate::proved::ops::{LoadLaneOp, LoadOp, StoreLaneOp, StoreOp, VectorLoadOp};
     use crate::proved::raw::{RawVal, V128};
     use crate::proved::store::range::lies_within;
     use crate::proved::store::{Memory, MemoryType};
@@ -1279,8 +1268,87 @@ mod memories {
             }
         }
 
-        /// Writes into a memory.
+        /// Reads bytes of a memory.
         ///
+        /// # Contract
+        ///
+        /// ```text
+        /// ensures: ReadsMemoryAt index offset len self.now.slots.items (reply_or_no_such result)
+        /// ```
+        ///
+        /// Definitions: [`ReadsMemoryAt`](crate::specs::machine::MemoryEffectsSpecs#ReadsMemoryAt), [`reply_or_no_such`](crate::specs::machine::EffectsSpecs#reply_or_no_such).
+        #[inline(always)]
+        pub(crate) fn read(&self, index: usize, offset: usize, len: usize) -> Option<Reply> {
+            let memory = self.live(index)?;
+            Some(bytes_reply(memory.data(), offset, len))
+        }
+
+        /// Loads a number from a memory.
+        ///
+        /// # Contract
+        ///
+        /// ```text
+        /// ensures: reply_or_no_such result
+        ///     ≡ load_reply op (ptr + offset) (live_at self.now.slots.items index)
+        /// ```
+        ///
+        /// Definitions: [`reply_or_no_such`](crate::specs::machine::EffectsSpecs#reply_or_no_such), [`load_reply`](crate::specs::machine::MemoryEffectsSpecs#load_reply), [`live_at`](crate::specs::machine::StateSpecs#live_at).
+        #[inline(always)]
+        pub(crate) fn load(
+            &self,
+            op: LoadOp,
+            index: usize,
+            ptr: u64,
+            offset: u64,
+        ) -> Option<Reply> {
+            let value = op.load(self.live(index)?.data(), ptr, offset);
+            Some(value.map_or_else(Reply::Trap, Reply::Value))
+        }
+
+        /// Loads a vector from a memory, if the memory is there.
+        ///
+        /// # Contract
+        ///
+        /// ```text
+        /// ensures: option_map (as_raw raw_of_vector) result
+        ///     ≡ vector_loaded op (ptr + offset) (live_at self.now.slots.items index)
+        /// ```
+        ///
+        /// Definitions: [`as_raw`](crate::specs::ops::LoadStoreOpsSpecs#as_raw), [`raw_of_vector`](crate::specs::raw::RawValSpecs#raw_of_vector), [`vector_loaded`](crate::specs::machine::RegisterEffectsSpecs#vector_loaded), [`live_at`](crate::specs::machine::StateSpecs#live_at).
+        #[inline(always)]
+        pub(crate) fn load_vector(
+            &self,
+            op: VectorLoadOp,
+            index: usize,
+            ptr: u64,
+            offset: u64,
+        ) -> Option<Result<V128, TrapCode>> {
+            Some(op.load(self.live(index)?.data(), ptr, offset))
+        }
+
+        /// Loads a lane of a vector from a memory, if both are there.
+        ///
+        /// # Contract
+        ///
+        /// ```text
+        /// ensures: option_map (as_raw raw_of_vector) result
+        ///     ≡ lane_loaded op (ptr + offset) vector (live_at self.now.slots.items index)
+        /// ```
+        ///
+        /// Definitions: [`as_raw`](crate::specs::ops::LoadStoreOpsSpecs#as_raw), [`raw_of_vector`](crate::specs::raw::RawValSpecs#raw_of_vector), [`lane_loaded`](crate::specs::machine::RegisterEffectsSpecs#lane_loaded), [`live_at`](crate::specs::machine::StateSpecs#live_at).
+        #[inline(always)]
+        pub(crate) fn load_lane(
+            &self,
+            op: LoadLaneOp,
+            vector: Option<V128>,
+            index: usize,
+            ptr: u64,
+            offset: u64,
+        ) -> Option<Result<V128, TrapCode>> {
+            let (vector, memory) = (vector?, self.live(index)?);
+            Some(op.load(memory.data(), ptr, offset, vector))
+        }
+
         /// # Contract
         ///
         /// ```text
@@ -1296,18 +1364,17 @@ mod memories {
             Some(memory_reply(memory.write(offset, bytes)))
         }
 
-        /// Fills a range of a memory.
-        ///
         /// # Contract
         ///
         /// ```text
-        /// ensures filled: WithCharge (WritesRangeOfMemoryAt index (byte_filling_of dst value len))
+        /// ensures filled: WithCharge
+        ///     (WritesAt Reply.Memory index (byte_filling_of dst value len))
         ///     (metered self.old.slots.items (Some fuel.old)) (reply_or_no_such result)
         ///     (metered self.new.slots.items (Some fuel.new))
         /// ensures reserved: self.new.slots.reserved ≡ self.old.slots.reserved
         /// ```
         ///
-        /// Definitions: [`WithCharge`](crate::specs::store::GrowthSpecs#WithCharge), [`WritesRangeOfMemoryAt`](crate::specs::machine::MemoryEffectsSpecs#WritesRangeOfMemoryAt), [`byte_filling_of`](crate::specs::store::MemorySpecs#byte_filling_of), [`metered`](crate::specs::store::GrowthSpecs#metered), [`reply_or_no_such`](crate::specs::machine::EffectsSpecs#reply_or_no_such).
+        /// Definitions: [`WithCharge`](crate::specs::store::GrowthSpecs#WithCharge), [`WritesAt`](crate::specs::machine::EffectsSpecs#WritesAt), [`byte_filling_of`](crate::specs::store::MemorySpecs#byte_filling_of), [`metered`](crate::specs::store::GrowthSpecs#metered), [`reply_or_no_such`](crate::specs::machine::EffectsSpecs#reply_or_no_such).
         #[inline(always)]
         pub(crate) fn fill(
             &mut self,
@@ -1327,14 +1394,14 @@ mod memories {
         ///
         /// ```text
         /// ensures copied: WithCharge
-        ///     (WritesMemoryFrom (live_at self.old.slots.items src_index) dst_index
+        ///     (WritesFrom Reply.Memory (live_at self.old.slots.items src_index) dst_index
         ///     (memory_copy_of dst src len))
         ///     (metered self.old.slots.items (Some fuel.old)) (reply_or_no_such result)
         ///     (metered self.new.slots.items (Some fuel.new))
         /// ensures reserved: self.new.slots.reserved ≡ self.old.slots.reserved
         /// ```
         ///
-        /// Definitions: [`WithCharge`](crate::specs::store::GrowthSpecs#WithCharge), [`WritesMemoryFrom`](crate::specs::machine::MemoryEffectsSpecs#WritesMemoryFrom), [`live_at`](crate::specs::machine::StateSpecs#live_at), [`memory_copy_of`](crate::specs::machine::MemoryEffectsSpecs#memory_copy_of), [`metered`](crate::specs::store::GrowthSpecs#metered), [`reply_or_no_such`](crate::specs::machine::EffectsSpecs#reply_or_no_such).
+        /// Definitions: [`WithCharge`](crate::specs::store::GrowthSpecs#WithCharge), [`WritesFrom`](crate::specs::machine::EffectsSpecs#WritesFrom), [`live_at`](crate::specs::machine::StateSpecs#live_at), [`memory_copy_of`](crate::specs::machine::MemoryEffectsSpecs#memory_copy_of), [`metered`](crate::specs::store::GrowthSpecs#metered), [`reply_or_no_such`](crate::specs::machine::EffectsSpecs#reply_or_no_such).
         #[inline(always)]
         pub(crate) fn copy(
             &mut self,
@@ -1365,13 +1432,14 @@ mod memories {
         ///
         /// ```text
         /// ensures copied: WithCharge
-        ///     (WritesMemoryFrom (live_at self.old.slots.items index) index (memory_copy_of dst src len))
+        ///     (WritesFrom Reply.Memory (live_at self.old.slots.items index) index
+        ///     (memory_copy_of dst src len))
         ///     (metered self.old.slots.items (Some fuel.old)) (reply_or_no_such result)
         ///     (metered self.new.slots.items (Some fuel.new))
         /// ensures reserved: self.new.slots.reserved ≡ self.old.slots.reserved
         /// ```
         ///
-        /// Definitions: [`WithCharge`](crate::specs::store::GrowthSpecs#WithCharge), [`WritesMemoryFrom`](crate::specs::machine::MemoryEffectsSpecs#WritesMemoryFrom), [`live_at`](crate::specs::machine::StateSpecs#live_at), [`memory_copy_of`](crate::specs::machine::MemoryEffectsSpecs#memory_copy_of), [`metered`](crate::specs::store::GrowthSpecs#metered), [`reply_or_no_such`](crate::specs::machine::EffectsSpecs#reply_or_no_such).
+        /// Definitions: [`WithCharge`](crate::specs::store::GrowthSpecs#WithCharge), [`WritesFrom`](crate::specs::machine::EffectsSpecs#WritesFrom), [`live_at`](crate::specs::machine::StateSpecs#live_at), [`memory_copy_of`](crate::specs::machine::MemoryEffectsSpecs#memory_copy_of), [`metered`](crate::specs::store::GrowthSpecs#metered), [`reply_or_no_such`](crate::specs::machine::EffectsSpecs#reply_or_no_such).
         #[inline(always)]
         fn copy_in_one(
             &mut self,
@@ -1387,37 +1455,37 @@ mod memories {
             ))
         }
 
-        /// Copies a range of a data segment to a memory.
+        /// Copies a range of a data segment to a memory, if the segment is there.
         ///
         /// # Contract
         ///
         /// ```text
         /// ensures copied: WithCharge
-        ///     (WritesRangeOfMemoryAt index (byte_copy_of dst src len segment.now))
+        ///     (WritesRangeAt Reply.Memory index
+        ///     (option_map (byte_copy_of dst src len) (option_copied segment.entry)))
         ///     (metered self.old.slots.items (Some fuel.old)) (reply_or_no_such result)
         ///     (metered self.new.slots.items (Some fuel.new))
         /// ensures reserved: self.new.slots.reserved ≡ self.old.slots.reserved
         /// ```
         ///
-        /// Definitions: [`WithCharge`](crate::specs::store::GrowthSpecs#WithCharge), [`WritesRangeOfMemoryAt`](crate::specs::machine::MemoryEffectsSpecs#WritesRangeOfMemoryAt), [`byte_copy_of`](crate::specs::store::MemorySpecs#byte_copy_of), [`metered`](crate::specs::store::GrowthSpecs#metered), [`reply_or_no_such`](crate::specs::machine::EffectsSpecs#reply_or_no_such).
+        /// Definitions: [`WithCharge`](crate::specs::store::GrowthSpecs#WithCharge), [`WritesRangeAt`](crate::specs::machine::EffectsSpecs#WritesRangeAt), [`byte_copy_of`](crate::specs::store::MemorySpecs#byte_copy_of), [`metered`](crate::specs::store::GrowthSpecs#metered), [`reply_or_no_such`](crate::specs::machine::EffectsSpecs#reply_or_no_such).
         #[inline(always)]
         pub(crate) fn init(
             &mut self,
             index: usize,
-            segment: &[u8],
+            segment: Option<&DataSegment>,
             dst: u64,
             src: u32,
             len: u32,
             fuel: &mut Fuel,
         ) -> Option<Reply> {
+            let segment = segment?.bytes();
             let memory = self.live_mut(index)?;
             Some(memory_reply(
                 memory.init_metered(segment, dst, src, len, fuel),
             ))
         }
 
-        /// Stores to a memory.
-        ///
         /// # Contract
         ///
         /// ```text
@@ -1463,8 +1531,7 @@ mod memories {
         Lane(StoreLaneOp, V128),
     }
 
-    /// The reply to a read of a memory's bytes: the bounds are tested before its buffer is allocated.
-    /// No byte takes no memory.
+    /// The reply to a read of a memory's bytes. The bounds are tested before memory is taken, if any.
     ///
     /// # Contract
     ///
@@ -1474,7 +1541,7 @@ mod memories {
     ///
     /// Definitions: [`ReadsBytes`](crate::specs::machine::MemoryEffectsSpecs#ReadsBytes), [`at`](crate::specs::types::AccessSpecs#at).
     #[inline(always)]
-    pub(crate) fn bytes_reply(memory: &[u8], offset: usize, len: usize) -> Reply {
+    fn bytes_reply(memory: &[u8], offset: usize, len: usize) -> Reply {
         if !lies_within(memory, offset as u64, len as u64) {
             return Reply::Memory(MemoryError::OutOfBoundsAccess);
         }
@@ -1565,12 +1632,13 @@ mod registers {
             Some(Reply::Done)
         }
 
-        /// Sets a register to a vector that was loaded, or keeps it where the load has trapped.
+        /// Sets a register to a vector that was loaded, if a load was made, or keeps it where the load has
+        /// trapped.
         ///
         /// # Contract
         ///
         /// ```text
-        /// ensures: SetsRegister dst (Some (as_raw raw_of_vector vector)) self.old.values
+        /// ensures: SetsRegister dst (option_map (as_raw raw_of_vector) loaded) self.old.values
         ///     (reply_or_no_such result) self.new.values
         /// ```
         ///
@@ -1579,9 +1647,9 @@ mod registers {
         pub(crate) fn set_loaded(
             &mut self,
             dst: u8,
-            vector: Result<V128, TrapCode>,
+            loaded: Option<Result<V128, TrapCode>>,
         ) -> Option<Reply> {
-            match vector {
+            match loaded? {
                 Ok(vector) => self.set(dst, vector.into()),
                 Err(trap) => self.get(dst).map(|_| Reply::Trap(trap)),
             }
@@ -1902,7 +1970,7 @@ mod running {
     ///
     /// # Errors
     ///
-    /// That of `run`.
+    /// `AllocError` if memory for the replies, allocated first, is refused; then nothing has happened.
     ///
     /// # Contract
     ///
@@ -1929,12 +1997,11 @@ mod running {
         replies
     }
 
-    /// Executes calls, as `run`, under a limiter that holds exactly what the machine has, and does so
-    /// again afterwards.
+    /// Executes calls, as `run`, under a limiter that holds exactly what the machine has, also after.
     ///
     /// # Errors
     ///
-    /// That of `run`.
+    /// `AllocError` if memory for the replies, allocated first, is refused; then nothing has happened.
     ///
     /// # Panics
     ///
@@ -2016,7 +2083,7 @@ mod running {
     ///
     /// # Errors
     ///
-    /// That of `run_into`.
+    /// `TooManyCalls` for more calls than the capacity of `replies`; then nothing has happened.
     ///
     /// # Contract
     ///
@@ -2047,12 +2114,11 @@ mod running {
         result
     }
 
-    /// Executes calls, as `run_into`, under a limiter that holds exactly what the machine has, and does
-    /// so again afterwards.
+    /// Executes calls, as `run_into`, under a limiter that holds what the machine has, also after.
     ///
     /// # Errors
     ///
-    /// That of `run_into`.
+    /// `TooManyCalls` for more calls than the capacity of `replies`; then nothing has happened.
     ///
     /// # Panics
     ///
@@ -2092,8 +2158,7 @@ mod running {
     }
 }
 mod slots {
-    //! Slots: what was made, each at the index of its making, and the totals of its sizes; and lists
-    //! with memory for more items.
+    //! Slots: what was made, at the index of its making, and total sizes; lists with memory for more.
 
     use crate::proved::machine::calls::Reply;
     use crate::proved::store::{Memory, Table};
@@ -2391,8 +2456,6 @@ mod slots {
             }
         }
 
-        /// The items.
-        ///
         /// # Contract
         ///
         /// ```text
@@ -2403,8 +2466,6 @@ mod slots {
             self.items.as_slice()
         }
 
-        /// The item of an index, if there is one.
-        ///
         /// # Contract
         ///
         /// ```text
@@ -2453,10 +2514,6 @@ mod slots {
         }
 
         /// Asks for memory for so many more items, unless it is there.
-        ///
-        /// # Errors
-        ///
-        /// `AllocError` if it is refused; then so many more items aren't reserved.
         ///
         /// # Contract
         ///
@@ -2507,21 +2564,19 @@ mod store {
 
     use crate::proved::machine::calls::{Call, Reply};
     use crate::proved::machine::data::DataSegment;
-    use crate::proved::machine::memories::{Stored, bytes_reply};
+    use crate::proved::machine::memories::Stored;
     use crate::proved::machine::registers::Registers;
     use crate::proved::machine::slots::{ReservedList, SlotCounts, Slots};
     use crate::proved::machine::values::{
         create_data, create_global, create_segment, drop_data, drop_items, get_global, set_global,
     };
     use crate::proved::meter::{Fuel, ResourceLimiter, ResourceLimiterRef};
-    use crate::proved::store::{ElementSegment, ElementSegmentRef, Memory, Table};
+    use crate::proved::store::{ElementSegment, Memory, Table};
     use crate::proved::typed::Global;
     use crate::rattle::alloc::AllocError;
 
     /// Memories, tables, element segments, data segments and globals by their indices, registers, the
-    /// meter, and the spare region, if there is one.
-    ///
-    /// Core specification, the store.
+    /// meter, and the spare region, if there is one. Core specification, the store.
     ///
     /// # Model
     ///
@@ -2561,6 +2616,10 @@ mod store {
     impl<'r> MachineStore<'r> {
         /// Reserves so many more slots of each kind, or none if memory for some is refused.
         ///
+        /// # Errors
+        ///
+        /// `AllocError` if memory for some of it is refused; then no more is reserved.
+        ///
         /// # Contract
         ///
         /// ```text
@@ -2584,8 +2643,6 @@ mod store {
             Ok(())
         }
 
-        /// Grows a memory by so many pages.
-        ///
         /// # Contract
         ///
         /// ```text
@@ -2610,8 +2667,6 @@ mod store {
             Some(grown.map_or_else(Reply::Memory, Reply::Number))
         }
 
-        /// Executes one call.
-        ///
         /// # Contract
         ///
         /// ```text
@@ -2684,8 +2739,6 @@ mod store {
             }
         }
 
-        /// Executes one call on memories.
-        ///
         /// # Contract
         ///
         /// ```text
@@ -2716,10 +2769,7 @@ mod store {
                     memory,
                     offset,
                     len,
-                } => {
-                    let memory = self.memories.live(*memory)?;
-                    Some(bytes_reply(memory.data(), *offset, *len))
-                }
+                } => self.memories.read(*memory, *offset, *len),
                 Call::Write {
                     memory,
                     offset,
@@ -2730,11 +2780,7 @@ mod store {
                     memory,
                     ptr,
                     offset,
-                } => {
-                    let memory = self.memories.live(*memory)?;
-                    let value = op.load(memory.data(), *ptr, *offset);
-                    Some(value.map_or_else(Reply::Trap, Reply::Value))
-                }
+                } => self.memories.load(*op, *memory, *ptr, *offset),
                 Call::Store {
                     op,
                     memory,
@@ -2768,16 +2814,14 @@ mod store {
                     src,
                     len,
                 } => {
-                    let segment = self.data_segments.get(*segment)?;
+                    let segment = self.data_segments.get(*segment);
                     self.memories
-                        .init(*memory, segment.bytes(), *dst, *src, *len, &mut self.fuel)
+                        .init(*memory, segment, *dst, *src, *len, &mut self.fuel)
                 }
                 _ => unreachable!(),
             }
         }
 
-        /// Executes one call on tables.
-        ///
         /// # Contract
         ///
         /// ```text
@@ -2804,9 +2848,7 @@ mod store {
                         .grow(*table, *delta, *init, &mut self.fuel, limiter)
                 }
                 Call::DropTable(table) => self.tables.drop_live(*table),
-                Call::GetElement { table, index } => {
-                    Some(Reply::Reference(self.tables.live(*table)?.get(*index)))
-                }
+                Call::GetElement { table, index } => self.tables.get(*table, *index),
                 Call::SetElement {
                     table,
                     index,
@@ -2819,15 +2861,9 @@ mod store {
                     src,
                     len,
                 } => {
-                    let segment = self.segments.get(*segment)?;
-                    self.tables.init(
-                        *table,
-                        ElementSegmentRef::from(segment),
-                        *dst,
-                        *src,
-                        *len,
-                        &mut self.fuel,
-                    )
+                    let segment = self.segments.get(*segment);
+                    self.tables
+                        .init(*table, segment, *dst, *src, *len, &mut self.fuel)
                 }
                 Call::CopyTable {
                     dst_table,
@@ -2866,9 +2902,15 @@ mod store {
         fn step_register<L: ResourceLimiter>(&mut self, call: &Call) -> Option<Reply> {
             match call {
                 Call::SetRegister { dst, value } => self.registers.set(*dst, *value),
-                Call::GetRegister(register) => Some(Reply::Value(self.registers.get(*register)?)),
-                Call::Test { op, a } => Some(Reply::Value(op.apply(self.registers.vector(*a)?))),
-                Call::Extract { op, a } => Some(Reply::Value(op.apply(self.registers.vector(*a)?))),
+                Call::GetRegister(register) => self.registers.get(*register).map(Reply::Value),
+                Call::Test { op, a } => {
+                    let a = self.registers.vector(*a);
+                    a.map(|a| Reply::Value(op.apply(a)))
+                }
+                Call::Extract { op, a } => {
+                    let a = self.registers.vector(*a);
+                    a.map(|a| Reply::Value(op.apply(a)))
+                }
                 Call::Make { dst, .. } => self.registers.set_made(*dst, call),
                 Call::Unary { dst, .. } => self.registers.set_made(*dst, call),
                 Call::Binary { dst, .. } => self.registers.set_made(*dst, call),
@@ -2903,8 +2945,7 @@ mod store {
                     ptr,
                     offset,
                 } => {
-                    let memory = self.memories.live(*memory)?;
-                    let vector = op.load(memory.data(), *ptr, *offset);
+                    let vector = self.memories.load_vector(*op, *memory, *ptr, *offset);
                     self.registers.set_loaded(*dst, vector)
                 }
                 Call::LoadLane {
@@ -2915,8 +2956,8 @@ mod store {
                     ptr,
                     offset,
                 } => {
-                    let (a, memory) = (self.registers.vector(*a)?, self.memories.live(*memory)?);
-                    let vector = op.load(memory.data(), *ptr, *offset, a);
+                    let a = self.registers.vector(*a);
+                    let vector = self.memories.load_lane(*op, a, *memory, *ptr, *offset);
                     self.registers.set_loaded(*dst, vector)
                 }
                 Call::VectorStore {
@@ -2949,7 +2990,7 @@ mod tables {
     use crate::proved::machine::calls::Reply;
     use crate::proved::machine::slots::{Slot, Slots};
     use crate::proved::meter::{Fuel, ResourceLimiter, ResourceLimiterRef, TableError};
-    use crate::proved::store::{ElementSegmentRef, Table, TableType};
+    use crate::proved::store::{ElementSegment, ElementSegmentRef, Table, TableType};
     use crate::proved::typed::TypedRawRef;
 
     impl Slots<Table> {
@@ -2985,14 +3026,11 @@ mod tables {
             }
         }
 
-        /// Grows a table by so many elements.
-        ///
         /// # Contract
         ///
         /// ```text
         /// ensures loan: KeepsLoan limiter.old limiter.new
-        /// ensures grown: WithCharge
-        ///     (ActsAt index (reply_of Reply.Number Reply.Table)
+        /// ensures grown: WithCharge (ActsAt index (reply_of Reply.Number Reply.Table)
         ///     (GrowsTableCharging (optional_rules L.rules) delta init))
         ///     (metered_value self.old.slots.items (Some fuel.old) (lent_limiter limiter.old))
         ///     (reply_or_no_such result)
@@ -3037,8 +3075,21 @@ mod tables {
             }
         }
 
-        /// Sets an element of a table.
+        /// The element of a table at an index, as a reply.
         ///
+        /// # Contract
+        ///
+        /// ```text
+        /// ensures: reply_or_no_such result
+        ///     ≡ element_reply element (live_at self.now.slots.items index)
+        /// ```
+        ///
+        /// Definitions: [`reply_or_no_such`](crate::specs::machine::EffectsSpecs#reply_or_no_such), [`element_reply`](crate::specs::machine::TableEffectsSpecs#element_reply), [`live_at`](crate::specs::machine::StateSpecs#live_at).
+        #[inline(always)]
+        pub(crate) fn get(&self, index: usize, element: u64) -> Option<Reply> {
+            Some(Reply::Reference(self.live(index)?.get(element)))
+        }
+
         /// # Contract
         ///
         /// ```text
@@ -3059,18 +3110,16 @@ mod tables {
             Some(table_reply(table.set(element, value)))
         }
 
-        /// Fills a part of a table.
-        ///
         /// # Contract
         ///
         /// ```text
-        /// ensures filled: WithCharge (WritesTableAt index (filling_of dst value len))
+        /// ensures filled: WithCharge (WritesAt Reply.Table index (filling_of dst value len))
         ///     (metered self.old.slots.items (Some fuel.old)) (reply_or_no_such result)
         ///     (metered self.new.slots.items (Some fuel.new))
         /// ensures reserved: self.new.slots.reserved ≡ self.old.slots.reserved
         /// ```
         ///
-        /// Definitions: [`WithCharge`](crate::specs::store::GrowthSpecs#WithCharge), [`WritesTableAt`](crate::specs::machine::TableEffectsSpecs#WritesTableAt), [`filling_of`](crate::specs::store::TableSpecs#filling_of), [`metered`](crate::specs::store::GrowthSpecs#metered), [`reply_or_no_such`](crate::specs::machine::EffectsSpecs#reply_or_no_such).
+        /// Definitions: [`WithCharge`](crate::specs::store::GrowthSpecs#WithCharge), [`WritesAt`](crate::specs::machine::EffectsSpecs#WritesAt), [`filling_of`](crate::specs::store::TableSpecs#filling_of), [`metered`](crate::specs::store::GrowthSpecs#metered), [`reply_or_no_such`](crate::specs::machine::EffectsSpecs#reply_or_no_such).
         #[inline(always)]
         pub(crate) fn fill(
             &mut self,
@@ -3090,23 +3139,25 @@ mod tables {
         ///
         /// ```text
         /// ensures copied: WithCharge
-        ///     (WritesTableAt index (initialization_of dst src len (segment_of segment.entry)))
+        ///     (WritesRangeAt Reply.Table index
+        ///     (option_map (initialization_of dst src len) (option_copied segment.entry)))
         ///     (metered self.old.slots.items (Some fuel.old)) (reply_or_no_such result)
         ///     (metered self.new.slots.items (Some fuel.new))
         /// ensures reserved: self.new.slots.reserved ≡ self.old.slots.reserved
         /// ```
         ///
-        /// Definitions: [`WithCharge`](crate::specs::store::GrowthSpecs#WithCharge), [`WritesTableAt`](crate::specs::machine::TableEffectsSpecs#WritesTableAt), [`initialization_of`](crate::specs::store::TableSpecs#initialization_of), [`segment_of`](crate::specs::store::SegmentSpecs#segment_of), [`metered`](crate::specs::store::GrowthSpecs#metered), [`reply_or_no_such`](crate::specs::machine::EffectsSpecs#reply_or_no_such).
+        /// Definitions: [`WithCharge`](crate::specs::store::GrowthSpecs#WithCharge), [`WritesRangeAt`](crate::specs::machine::EffectsSpecs#WritesRangeAt), [`initialization_of`](crate::specs::store::TableSpecs#initialization_of), [`metered`](crate::specs::store::GrowthSpecs#metered), [`reply_or_no_such`](crate::specs::machine::EffectsSpecs#reply_or_no_such).
         #[inline(always)]
         pub(crate) fn init(
             &mut self,
             index: usize,
-            segment: ElementSegmentRef,
+            segment: Option<&ElementSegment>,
             dst: u64,
             src: u32,
             len: u32,
             fuel: &mut Fuel,
         ) -> Option<Reply> {
+            let segment = ElementSegmentRef::from(segment?);
             let table = self.live_mut(index)?;
             Some(table_reply(
                 table.init_metered(segment, dst, src, len, fuel),
@@ -3119,14 +3170,14 @@ mod tables {
         ///
         /// ```text
         /// ensures copied: WithCharge
-        ///     (WritesTableFrom (live_at self.old.slots.items src_index) dst_index
+        ///     (WritesFrom Reply.Table (live_at self.old.slots.items src_index) dst_index
         ///     (copy_of dst src len))
         ///     (metered self.old.slots.items (Some fuel.old)) (reply_or_no_such result)
         ///     (metered self.new.slots.items (Some fuel.new))
         /// ensures reserved: self.new.slots.reserved ≡ self.old.slots.reserved
         /// ```
         ///
-        /// Definitions: [`WithCharge`](crate::specs::store::GrowthSpecs#WithCharge), [`WritesTableFrom`](crate::specs::machine::TableEffectsSpecs#WritesTableFrom), [`live_at`](crate::specs::machine::StateSpecs#live_at), [`copy_of`](crate::specs::store::TableSpecs#copy_of), [`metered`](crate::specs::store::GrowthSpecs#metered), [`reply_or_no_such`](crate::specs::machine::EffectsSpecs#reply_or_no_such).
+        /// Definitions: [`WithCharge`](crate::specs::store::GrowthSpecs#WithCharge), [`WritesFrom`](crate::specs::machine::EffectsSpecs#WritesFrom), [`live_at`](crate::specs::machine::StateSpecs#live_at), [`copy_of`](crate::specs::store::TableSpecs#copy_of), [`metered`](crate::specs::store::GrowthSpecs#metered), [`reply_or_no_such`](crate::specs::machine::EffectsSpecs#reply_or_no_such).
         #[inline(always)]
         pub(crate) fn copy(
             &mut self,
@@ -3155,13 +3206,14 @@ mod tables {
         ///
         /// ```text
         /// ensures copied: WithCharge
-        ///     (WritesTableFrom (live_at self.old.slots.items index) index (copy_of dst src len))
+        ///     (WritesFrom Reply.Table (live_at self.old.slots.items index) index
+        ///     (copy_of dst src len))
         ///     (metered self.old.slots.items (Some fuel.old)) (reply_or_no_such result)
         ///     (metered self.new.slots.items (Some fuel.new))
         /// ensures reserved: self.new.slots.reserved ≡ self.old.slots.reserved
         /// ```
         ///
-        /// Definitions: [`WithCharge`](crate::specs::store::GrowthSpecs#WithCharge), [`WritesTableFrom`](crate::specs::machine::TableEffectsSpecs#WritesTableFrom), [`live_at`](crate::specs::machine::StateSpecs#live_at), [`copy_of`](crate::specs::store::TableSpecs#copy_of), [`metered`](crate::specs::store::GrowthSpecs#metered), [`reply_or_no_such`](crate::specs::machine::EffectsSpecs#reply_or_no_such).
+        /// Definitions: [`WithCharge`](crate::specs::store::GrowthSpecs#WithCharge), [`WritesFrom`](crate::specs::machine::EffectsSpecs#WritesFrom), [`live_at`](crate::specs::machine::StateSpecs#live_at), [`copy_of`](crate::specs::store::TableSpecs#copy_of), [`metered`](crate::specs::store::GrowthSpecs#metered), [`reply_or_no_such`](crate::specs::machine::EffectsSpecs#reply_or_no_such).
         #[inline(always)]
         fn copy_in_one(
             &mut self,
@@ -3202,8 +3254,6 @@ mod values {
     use crate::proved::typed::{Global, GlobalType, TypedRawVal};
     use crate::proved::types::RefType;
 
-    /// Makes an element segment.
-    ///
     /// # Contract
     ///
     /// ```text
@@ -3228,8 +3278,6 @@ mod values {
         }
     }
 
-    /// Drops the items of an element segment.
-    ///
     /// # Contract
     ///
     /// ```text
@@ -3267,8 +3315,6 @@ mod values {
         }
     }
 
-    /// Drops the bytes of a data segment.
-    ///
     /// # Contract
     ///
     /// ```text
@@ -3286,8 +3332,6 @@ mod values {
         Reply::Done
     }
 
-    /// Makes a global.
-    ///
     /// # Contract
     ///
     /// ```text
@@ -3325,8 +3369,6 @@ mod values {
         Reply::Made(items.push(item))
     }
 
-    /// Sets a global.
-    ///
     /// # Contract
     ///
     /// ```text
@@ -3349,15 +3391,13 @@ mod values {
             .map_or_else(Reply::Global, |()| Reply::Done)
     }
 
-    /// The value of a global.
-    ///
     /// # Contract
     ///
     /// ```text
-    /// ensures: GetsGlobalAt index globals.now result
+    /// ensures: result ≡ global_reply (slice_get globals.now index)
     /// ```
     ///
-    /// Definitions: [`GetsGlobalAt`](crate::specs::machine::ValueEffectsSpecs#GetsGlobalAt).
+    /// Definitions: [`global_reply`](crate::specs::machine::ValueEffectsSpecs#global_reply).
     #[inline(always)]
     pub(crate) fn get_global(globals: &[Global], index: usize) -> Reply {
         globals

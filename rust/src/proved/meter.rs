@@ -20,8 +20,7 @@ mod answer_list {
     }
 
     /// A limiter that answers each question by the next answer of a list, and permits once there is
-    /// none left. It answers a notice by the answer to the last question, and accepts one before the
-    /// first question.
+    /// none left. It answers a notice by the answer to the last question, and accepts one before any.
     ///
     /// # Model
     ///
@@ -153,9 +152,7 @@ mod error {
     use crate::proved::meter::fuel::FuelError;
     use core::fmt;
 
-    /// The error that a resource limiter returns to a question or to a notice.
-    ///
-    /// Upstream: `wasmi_core::LimiterError`.
+    /// A resource limiter's error, to a question or a notice. Upstream: `wasmi_core::LimiterError`.
     #[derive(Clone, Copy, Debug, PartialEq, Eq)]
     pub enum LimiterError {
         /// The limiter refuses what it was asked, or rejects the notice that it got.
@@ -178,9 +175,7 @@ mod error {
 
     impl core::error::Error for LimiterError {}
 
-    /// Why a call on a linear memory or a memory type is refused.
-    ///
-    /// Upstream: `wasmi_core::MemoryError`.
+    /// Why a call on a linear memory or a memory type is refused. Upstream: `wasmi_core::MemoryError`.
     #[derive(Clone, Copy, Debug, PartialEq, Eq)]
     pub enum MemoryError {
         /// The system refused memory for an owned memory.
@@ -189,8 +184,7 @@ mod error {
         OutOfBoundsGrowth,
         /// A read or a write that ends past the memory.
         OutOfBoundsAccess,
-        /// A page size other than 1 byte and 64 KiB, or limits above the greatest number of pages or
-        /// out of order.
+        /// Pages not of 1 byte or 64 KiB, or limits out of order or above the greatest number of pages.
         InvalidMemoryType,
         /// A borrowed buffer that is too short.
         InvalidStaticBufferSize,
@@ -264,9 +258,7 @@ mod error {
 
     impl core::error::Error for MemoryError {}
 
-    /// Why a call on a table is refused.
-    ///
-    /// Upstream: `wasmi_core::TableError`.
+    /// Why a call on a table is refused. Upstream: `wasmi_core::TableError`.
     #[derive(Clone, Copy, Debug, PartialEq, Eq)]
     #[non_exhaustive]
     pub enum TableError {
@@ -402,9 +394,8 @@ mod fuel {
     use crate::proved::raw::RawRef;
     use core::fmt;
 
-    /// The number of bytes that a copied value counts for, in place of its size in memory.
-    ///
-    /// Own: upstream takes the size in memory of any type.
+    /// The number of bytes that a copied value counts for, in place of its size in memory. Own:
+    /// upstream takes the size in memory of any type.
     ///
     /// # Contract
     ///
@@ -422,9 +413,7 @@ mod fuel {
         const SIZE: u64 = size_of::<T>() as u64;
     }
 
-    /// What work costs.
-    ///
-    /// Upstream: `wasmi_core::FuelCosts`.
+    /// What work costs. Upstream: `wasmi_core::FuelCosts`.
     ///
     /// # Contract
     ///
@@ -461,9 +450,7 @@ mod fuel {
         fn fuel_per_bytes_validated(&self) -> u32;
     }
 
-    /// Costs that a host chooses.
-    ///
-    /// Upstream: `wasmi_core::CustomFuelCosts`.
+    /// Costs that a host chooses. Upstream: `wasmi_core::CustomFuelCosts`.
     #[derive(Clone, Copy, Debug)]
     pub struct CustomFuelCosts {
         /// How many bytes are copied for one unit of fuel; at 0 each copy costs `u64::MAX`.
@@ -504,9 +491,8 @@ mod fuel {
         fuel_per_bytes_validated: 2,
     };
 
-    /// The costs of a meter: those that a host chose, or the default ones.
-    ///
-    /// Upstream: `wasmi_core::FuelCostsProvider`.
+    /// The costs of a meter: those that a host chose, or the default ones. Upstream:
+    /// `wasmi_core::FuelCostsProvider`.
     #[derive(Clone, Default)]
     pub struct FuelCostsProvider {
         custom: Option<CustomFuelCosts>,
@@ -530,8 +516,6 @@ mod fuel {
             }
         }
 
-        /// The costs.
-        ///
         /// # Contract
         ///
         /// ```text
@@ -597,9 +581,7 @@ mod fuel {
         }
     }
 
-    /// Why a call on a fuel meter is refused.
-    ///
-    /// Upstream: `wasmi_core::FuelError`.
+    /// Why a call on a fuel meter is refused. Upstream: `wasmi_core::FuelError`.
     #[derive(Clone, Debug, PartialEq, Eq)]
     pub enum FuelError {
         /// The meter is off, so there is no fuel to set, read or consume.
@@ -678,9 +660,7 @@ mod fuel {
 
     impl core::error::Error for FuelError {}
 
-    /// A fuel meter. It is on or off, and stays so.
-    ///
-    /// Upstream: `wasmi_core::Fuel`.
+    /// A fuel meter. It is on or off, and stays so. Upstream: `wasmi_core::Fuel`.
     ///
     /// # Model
     ///
@@ -736,6 +716,10 @@ mod fuel {
             Fuel::new(false, FuelCostsProvider::default())
         }
 
+        /// # Errors
+        ///
+        /// [`FuelMeteringDisabled`](crate::FuelError::FuelMeteringDisabled) if the meter is off.
+        ///
         /// # Contract
         ///
         /// ```text
@@ -798,7 +782,7 @@ mod fuel {
         ///
         /// # Errors
         ///
-        /// [`OutOfFuel`](crate::FuelError::OutOfFuel) with `delta` if less is left; then nothing is consumed.
+        /// [`OutOfFuel`](crate::FuelError::OutOfFuel) with the amount if less is left; then nothing is consumed.
         ///
         /// # Contract
         ///
@@ -816,19 +800,18 @@ mod fuel {
             Ok(left)
         }
 
-        /// Consumes the fuel that `f` computes from the costs, and returns what is left.
+        /// Consumes the fuel that `f`, called if the meter is on, makes of the costs; returns the rest.
         ///
         /// # Errors
         ///
-        /// [`FuelMeteringDisabled`](crate::FuelError::FuelMeteringDisabled) if the meter is off, and `f` isn't called; [`OutOfFuel`](crate::FuelError::OutOfFuel) if less is
-        /// left, and nothing is consumed.
+        /// [`FuelMeteringDisabled`](crate::FuelError::FuelMeteringDisabled) if the meter is off.
+        /// [`OutOfFuel`](crate::FuelError::OutOfFuel) with the amount if less is left; then nothing is consumed.
         ///
         /// # Contract
         ///
         /// ```text
         /// requires callable: IsSome self.old.left → C.IsAlwaysCallable f
-        /// ensures on: IsSome self.old.left
-        ///     → (amount : ℕ) × Computes C.FnOnce f self.old.costs amount
+        /// ensures on: IsSome self.old.left → (amount : ℕ) × Computes C.FnOnce f self.old.costs amount
         ///     × ConsumesFuel self.old amount (amount_left self.old - amount) result self.new
         /// ensures off: self.old.left ≡ None
         ///     → (result ≡ Err FuelError.FuelMeteringDisabled) × (self.new ≡ self.old)
@@ -851,14 +834,13 @@ mod fuel {
         ///
         /// # Errors
         ///
-        /// [`OutOfFuel`](crate::FuelError::OutOfFuel) if less is left; then nothing is consumed.
+        /// [`OutOfFuel`](crate::FuelError::OutOfFuel) with the amount if less is left; then nothing is consumed.
         ///
         /// # Contract
         ///
         /// ```text
         /// requires callable: IsSome self.old.left → C.IsAlwaysCallable f
-        /// ensures on: IsSome self.old.left
-        ///     → (amount : ℕ) × Computes C.FnOnce f self.old.costs amount
+        /// ensures on: IsSome self.old.left → (amount : ℕ) × Computes C.FnOnce f self.old.costs amount
         ///     × ConsumesFuel self.old amount tt result self.new
         /// ensures off: self.old.left ≡ None → (result ≡ Ok tt) × (self.new ≡ self.old)
         /// ```
@@ -888,9 +870,7 @@ mod limiter {
     use crate::proved::meter::error::{LimiterError, MemoryError, TableError};
     use core::fmt;
 
-    /// What grows: a linear memory, in bytes, or a table, in elements.
-    ///
-    /// Own: upstream has a pair of methods for each.
+    /// What grows: a memory, in bytes, or a table, in elements. Own: upstream has two methods for each.
     #[derive(Clone, Copy, Debug, PartialEq, Eq)]
     pub enum Kind {
         /// The bytes of linear memories.
@@ -971,8 +951,7 @@ mod limiter {
             maximum: Option<usize>,
         ) -> Result<bool, LimiterError>;
 
-        /// A memory was permitted to grow and did not, because of this error. After `Ok(())` the call
-        /// returns this error.
+        /// A permitted growth of a memory failed by this error, which the call returns after `Ok(())`.
         ///
         /// # Errors
         ///
@@ -987,8 +966,7 @@ mod limiter {
         /// Definitions: [`MemoryFailure`](crate::specs::meter::LimiterSpecs#MemoryFailure).
         fn memory_grow_failed(&mut self, error: &MemoryError) -> Result<(), LimiterError>;
 
-        /// A table was permitted to grow and did not, because of this error. After `Ok(())` the call
-        /// returns this error.
+        /// A permitted growth of a table failed by this error, which the call returns after `Ok(())`.
         ///
         /// # Errors
         ///
@@ -1252,9 +1230,8 @@ mod limiter {
         impl<'a, L> Sealed for &'a mut L {}
     }
 
-    /// What lends a value: a `&mut` reference, and nothing else.
-    ///
-    /// Own: it gives contracts a name for the reference after the loan.
+    /// What lends a value: a `&mut` reference, and nothing else. Own: it gives contracts a name for the
+    /// reference after the loan.
     ///
     /// # Contract
     ///
@@ -1315,9 +1292,7 @@ mod limiter {
     /// If this reference goes out of scope or is dropped, nothing is known of the limiter afterwards.
     /// To know its state, end the loan by [`LimiterRef::into_resource_limiter`], or use a function that
     /// borrows the limiter for one call: `new_lending` and `grow_lending` of memories and tables,
-    /// `step_lending` and `run_lending` of machines.
-    ///
-    /// Upstream: `wasmi_core::ResourceLimiterRef`.
+    /// `step_lending` and `run_lending` of machines. Upstream: `wasmi_core::ResourceLimiterRef`.
     pub type ResourceLimiterRef<'a, L> = LimiterRef<&'a mut L>;
 
     /// # Contract
@@ -1367,9 +1342,8 @@ mod limiter {
             self.limiter
         }
 
-        /// Ends the loan of a limiter that is there, as `into_resource_limiter` does.
-        ///
-        /// Own: functions that borrow a limiter for one call end its loan by it.
+        /// Ends the loan of a limiter that is there, as `into_resource_limiter` does. Own: functions
+        /// that borrow a limiter for one call end its loan by it.
         ///
         /// # Panics
         ///
@@ -1397,10 +1371,10 @@ mod limiter {
         /// ```text
         /// ensures* writes_back: sem 𝓛
         ///     (LendsLimiter R.row R.Lent.row R.Lender.last self.entry result)
-        /// ensures value: option_copied_mut result ≡ shown_of R.Lender.shown (loan self.old)
+        /// ensures value: option_copied_mut result ≡ option_map R.Lender.shown (loan self.old)
         /// ```
         ///
-        /// Definitions: [`LendsLimiter`](crate::specs::meter::LimiterSpecs#LendsLimiter), [`shown_of`](crate::specs::meter::LimiterSpecs#shown_of), [`loan`](crate::specs::meter::LimiterSpecs#loan).
+        /// Definitions: [`LendsLimiter`](crate::specs::meter::LimiterSpecs#LendsLimiter), [`loan`](crate::specs::meter::LimiterSpecs#loan).
         ///
         /// `R` is the type of what lends the limiter, a [`Lender`](crate::machine::Lender#contract).
         #[inline]
@@ -1604,8 +1578,7 @@ mod quota {
             Holdings { held, last: None }
         }
 
-        /// The holdings of which `held` and `last` returned these values: so much is held, and this
-        /// difference can be given back.
+        /// The holdings of which `held` and `last` gave these: what is held, and can be given back.
         ///
         /// # Contract
         ///
@@ -1783,8 +1756,7 @@ mod quota {
         /// ```
         fn holdings(&self) -> Holdings;
 
-        /// Takes `difference` more of a kind, if all that is held of it stays within the cap. Returns
-        /// whether it was taken.
+        /// Takes `difference` more of a kind, if all held of it stays within the cap; says whether.
         ///
         /// # Contract
         ///
@@ -1881,10 +1853,8 @@ mod quota {
         #[must_use]
         #[inline]
         pub fn new(bytes: u64, elements: u64) -> Self {
-            Quota {
-                caps: Amounts { bytes, elements },
-                holdings: Holdings::new(Amounts::default()),
-            }
+            let caps = Amounts { bytes, elements };
+            Quota::resume(caps, Holdings::new(Amounts::default()))
         }
 
         /// The quota whose caps and holdings were read before by `caps` and `holdings`. Two quotas that

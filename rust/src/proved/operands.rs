@@ -100,9 +100,9 @@ pub mod lane {
     }
 }
 pub mod operand {
-    //! The words of a line, and what they write: numbers, types, references, a limiter's answers and
-    //! the names of instructions, also of those on one lane, by one word, by as many as a command has,
-    //! or as a list.
+    //! The words of a line, and what they write: numbers, types, references, a limiter's answers, the
+    //! names of instructions, also of those on one lane with its index, and the indices of lanes, by
+    //! one word, by as many as a command has, or as a list.
 
     use crate::proved::lanes::ImmLaneIdx32;
     use crate::proved::meter::LimiterAnswer;
@@ -138,8 +138,7 @@ pub mod operand {
         Ok(())
     }
 
-    /// The number that a word writes in decimal digits, if it fits its type. Leading zeros are allowed,
-    /// a sign isn't.
+    /// The number that a word writes in decimal digits (zeros may lead), if it fits its type.
     ///
     /// # Contract
     ///
@@ -187,8 +186,7 @@ pub mod operand {
     /// # Contract
     ///
     /// ```text
-    /// ensures: SomeIff result
-    ///     (IsInRange 48 57 byte × (number * 10 + digit_value byte < 2 ^ 64))
+    /// ensures: SomeIff result (IsInRange 48 57 byte × (number * 10 + digit_value byte < 2 ^ 64))
     ///     (number * 10 + digit_value byte)
     /// ```
     ///
@@ -237,7 +235,7 @@ pub mod operand {
         }
     }
 
-    // Where a `usize` has 32 bits, a greater number counts as the greatest, which is past the end of every list.
+    // Where a `usize` has 32 bits, a greater number counts as the greatest, past the end of every list.
     /// # Contract
     ///
     /// ```text

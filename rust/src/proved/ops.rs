@@ -1,8 +1,7 @@
 //! The instructions that a machine executes, as values: a variant for each function of a shape, what
 //! it gives, and its name.
 //!
-//! The variants of a type stand in the order of its list, which has their names. Own: upstream has
-//! no instructions as values.
+//! A type's variants stand in the order of its list, which has their names. Own: upstream has none.
 mod load_store {
     //! The scalar loads and stores as values, at a pointer and an offset.
 
@@ -80,8 +79,6 @@ mod load_store {
             self.load_front(&memory[address..])
         }
 
-        /// Loads from the front of some bytes.
-        ///
         /// # Contract
         ///
         /// ```text
@@ -167,8 +164,7 @@ mod rows {
     };
 }
 
-    /// What the function of an instruction's row gives for operands. An instruction on a lane has the
-    /// lane among them.
+    /// What the function of an instruction's row gives for operands: of one on a lane, the lane too.
     macro_rules! calls {
     (
         [$self:ident $operands:tt]
@@ -214,8 +210,7 @@ mod rows {
 }
 mod vector {
     //! The vector instructions as values, on vectors and raw values, with the loads and stores of
-    //! vectors and of one lane. A kind is an instruction on one lane without the lane's index: what a
-    //! name or a number alone tells.
+    //! vectors and of one lane. A kind is an instruction on one lane without its index.
 
     use crate::proved::lanes::{ImmLaneIdx2, ImmLaneIdx4, ImmLaneIdx8, ImmLaneIdx16};
     use crate::proved::lanewise::simd as lanewise;
@@ -1080,19 +1075,13 @@ mod vector {
         /// # Contract
         ///
         /// ```text
-        /// ensures: result ≡ loaded_lane self vector memory.now (ptr + offset)
+        /// ensures: result ≡ loaded_lane self v memory.now (ptr + offset)
         /// ```
         ///
         /// Definitions: [`loaded_lane`](crate::specs::ops::LaneOpsSpecs#loaded_lane).
         #[inline]
-        pub fn load(
-            self,
-            memory: &[u8],
-            ptr: u64,
-            offset: u64,
-            vector: V128,
-        ) -> Result<V128, TrapCode> {
-            lane_loads!(calls! self(lane) (memory, ptr, offset, vector, lane))
+        pub fn load(self, memory: &[u8], ptr: u64, offset: u64, v: V128) -> Result<V128, TrapCode> {
+            lane_loads!(calls! self(lane) (memory, ptr, offset, v, lane))
         }
     }
 
@@ -1160,7 +1149,7 @@ mod vector {
         /// # Contract
         ///
         /// ```text
-        /// ensures: IsStore memory.old (ptr + offset) (stored_lane self vector) memory.new result
+        /// ensures: IsStore memory.old (ptr + offset) (stored_lane self v) memory.new result
         /// ```
         ///
         /// Definitions: [`IsStore`](crate::specs::accesses::LoadStoreSpecs#IsStore), [`stored_lane`](crate::specs::ops::LaneOpsSpecs#stored_lane).
@@ -1170,9 +1159,9 @@ mod vector {
             memory: &mut [u8],
             ptr: u64,
             offset: u64,
-            vector: V128,
+            v: V128,
         ) -> Result<(), TrapCode> {
-            lane_stores!(calls! self(lane) (memory, ptr, offset, vector, lane))
+            lane_stores!(calls! self(lane) (memory, ptr, offset, v, lane))
         }
     }
 

@@ -245,9 +245,7 @@ mod convert {
 mod float {
     //! Floats of 32 and 64 bits, of which only the bits are known.
 
-    /// The 32 bits of a float, which contracts see as a number.
-    ///
-    /// Upstream: `wasmi_core::F32`.
+    /// The 32 bits of a float, which contracts see as a number. Upstream: `wasmi_core::F32`.
     ///
     /// # Model
     ///
@@ -289,9 +287,7 @@ mod float {
         }
     }
 
-    /// The 64 bits of a float, which contracts see as a number.
-    ///
-    /// Upstream: `wasmi_core::F64`.
+    /// The 64 bits of a float, which contracts see as a number. Upstream: `wasmi_core::F64`.
     ///
     /// # Model
     ///
@@ -393,8 +389,7 @@ mod number {
     /// An integer type: its width, its sign, and the numbers that its values stand for.
     ///
     /// The crate has no such trait. It has no function: contracts of conversions, loads, stores and
-    /// shifts name its members. The ten integer types from 8 to 128 bits have it, and no other type
-    /// can.
+    /// shifts name its members. The ten integer types from 8 to 128 bits have it, and no other can.
     ///
     /// # Contract
     ///
@@ -554,13 +549,11 @@ mod raw {
     pub trait OneWord: ReadBack {}
 }
 mod raw_ref {
-    //! Raw references: what an element of a table holds, whatever its type, its conversions, and how it
-    //! is read and written.
+    //! Raw references: what a table's element holds, whatever its type, converted, read and written.
 
     use crate::proved::raw::raw::{OneWord, RawVal, ReadAs, ReadBack, WriteAs};
 
     /// A reference of 32 bits without a type, which contracts see as a number. The null reference is 0.
-    ///
     /// Upstream: `wasmi_core::RawRef`.
     ///
     /// # Model
@@ -652,8 +645,7 @@ mod raw_ref {
     impl ReadAs<RawRef> for RawVal {
         #[inline]
         fn read_as(&self) -> RawRef {
-            let bits: u32 = self.read_as();
-            RawRef { bits }
+            RawRef::from(u32::from(*self))
         }
     }
 
@@ -713,8 +705,7 @@ mod read_write {
     impl ReadAs<i8> for RawVal {
         #[inline]
         fn read_as(&self) -> i8 {
-            let bits: u8 = self.read_as();
-            bits.cast_signed()
+            u8::from(*self).cast_signed()
         }
     }
 
@@ -728,8 +719,7 @@ mod read_write {
     impl ReadAs<i16> for RawVal {
         #[inline]
         fn read_as(&self) -> i16 {
-            let bits: u16 = self.read_as();
-            bits.cast_signed()
+            u16::from(*self).cast_signed()
         }
     }
 
@@ -743,8 +733,7 @@ mod read_write {
     impl ReadAs<i32> for RawVal {
         #[inline]
         fn read_as(&self) -> i32 {
-            let bits: u32 = self.read_as();
-            bits.cast_signed()
+            u32::from(*self).cast_signed()
         }
     }
 
@@ -758,8 +747,7 @@ mod read_write {
     impl ReadAs<i64> for RawVal {
         #[inline]
         fn read_as(&self) -> i64 {
-            let bits: u64 = self.read_as();
-            bits.cast_signed()
+            u64::from(*self).cast_signed()
         }
     }
 
@@ -1320,10 +1308,8 @@ mod vector {
     impl From<u128> for V128 {
         #[inline]
         fn from(number: u128) -> V128 {
-            V128 {
-                low: (number & 0xffff_ffff_ffff_ffff) as u64,
-                high: (number >> 64) as u64,
-            }
+            let low = (number & 0xffff_ffff_ffff_ffff) as u64;
+            V128::from_word_pair(low, (number >> 64) as u64)
         }
     }
 }

@@ -1,9 +1,7 @@
-//! Linear memories and tables that are the first bytes or elements of a region, which lies with the
-//! caller.
+//! Linear memories and tables that are the first bytes or elements of a region of the caller's.
 #[cfg(any(doc, test))]
 pub mod laws {
-    //! What holds of all tables on regions. These functions do nothing: each states a law as its
-    //! contract.
+    //! What holds of all tables on regions. Each function does nothing, and states a law.
 
     use crate::proved::meter::ResourceLimiter;
 
@@ -54,9 +52,7 @@ pub mod laws {
 pub mod memory {
     //! Linear memories whose bytes are the first of a region; the rest of it is room to grow in place.
     //! The caller keeps a memory's type and its size in bytes, and passes them to each call with the
-    //! region, or the memory's bytes alone.
-    //!
-    //! Own: upstream's memory borrows its static buffer for as long as it lives.
+    //! region, or the memory's bytes alone. Own: upstream's memory borrows its buffer while it lives.
 
     use crate::proved::meter::{Fuel, MemoryError, ResourceLimiter, ResourceLimiterRef};
     use crate::proved::store::MemoryType;
@@ -105,10 +101,7 @@ pub mod memory {
     ///
     /// # Errors
     ///
-    /// In the order of the tests: [`MinimumSizeOverflow`](crate::MemoryError::MinimumSizeOverflow) if the minimum has 2^64 bytes or more;
-    /// [`ResourceLimiterDeniedAllocation`](crate::MemoryError::ResourceLimiterDeniedAllocation) if the limiter doesn't permit it; [`InvalidStaticBufferSize`](crate::MemoryError::InvalidStaticBufferSize) if
-    /// the region is shorter than the minimum, of which the limiter is notified. After an error the
-    /// bytes of the region are unchanged.
+    /// In the order of the tests: [`MinimumSizeOverflow`](crate::MemoryError::MinimumSizeOverflow) if the minimum has 2^64 bytes or more; [`ResourceLimiterDeniedAllocation`](crate::MemoryError::ResourceLimiterDeniedAllocation) if the limiter doesn't permit it; [`InvalidStaticBufferSize`](crate::MemoryError::InvalidStaticBufferSize) if the region is shorter than the minimum, of which the limiter is notified. After an error the bytes of the region are unchanged.
     ///
     /// # Contract
     ///
@@ -137,21 +130,19 @@ pub mod memory {
         Ok(size)
     }
 
-    /// Makes a memory as [`make`] does, at the front of a region whose bytes up to the minimum are zeros
-    /// already, as fresh pages of the system are. It writes no byte: where they aren't zeros, the
-    /// memory has what stands there.
+    /// Makes a memory as [`make`] does, at the front of a region whose bytes up to the minimum are
+    /// zeros already, as fresh pages are. It writes no byte: the memory has what stands there.
     ///
     /// # Errors
     ///
-    /// Those of [`make`].
+    /// In the order of the tests: [`MinimumSizeOverflow`](crate::MemoryError::MinimumSizeOverflow) if the minimum has 2^64 bytes or more; [`ResourceLimiterDeniedAllocation`](crate::MemoryError::ResourceLimiterDeniedAllocation) if the limiter doesn't permit it; [`InvalidStaticBufferSize`](crate::MemoryError::InvalidStaticBufferSize) if the region is shorter than the minimum, of which the limiter is notified. After an error the bytes of the region are unchanged.
     ///
     /// # Contract
     ///
     /// ```text
     /// ensures loan: KeepsLoan limiter.old limiter.new
     /// ensures made: MakesMemory (optional_rules L.rules) (Lent region.now) ty
-    ///     (lent_limiter limiter.old) (made_in_zeros ty region.now result)
-    ///     (lent_limiter limiter.new)
+    ///     (lent_limiter limiter.old) (made_in_zeros ty region.now result) (lent_limiter limiter.new)
     /// ensures sized: IfOk result (λ size. IsSized ty size × (size ≤ length region.now))
     /// ```
     ///
@@ -230,7 +221,7 @@ pub mod memory {
     ///
     /// # Errors
     ///
-    /// Those of [`grow`].
+    /// Those of [`LinearMemory::grow`](crate::proved::store::LinearMemory::grow) on a lent region.
     ///
     /// # Panics
     ///
@@ -251,8 +242,7 @@ pub mod memory {
     /// ensures within: size.new ≤ length region.now
     /// ensures larger: size.old ≤ size.new
     /// ensures len: length (zeroed region.now size.old size.new) ≡ length region.now
-    /// ensures rest: drop size.new (zeroed region.now size.old size.new)
-    ///     ≡ drop size.new region.now
+    /// ensures rest: drop size.new (zeroed region.now size.old size.new) ≡ drop size.new region.now
     /// ensures refused: OnErr result (zeroed region.now size.old size.new ≡ region.now)
     /// ensures size: OnErr result (size.new ≡ size.old)
     /// ```
@@ -315,15 +305,14 @@ pub mod memory {
         additional: u64,
     ) -> Option<(usize, Option<usize>)> {
         assert!(is_sized(ty, size), "the type allows no such size");
-        let desired = ty.grown_size(size, additional)?;
-        Some((desired, ty.maximum_size()))
+        Some((ty.grown_size(size, additional)?, ty.maximum_size()))
     }
 
-    /// Fills bytes of a memory.
+    /// Fills bytes of a memory, as [`LinearMemory::fill`](crate::proved::store::LinearMemory::fill) does.
     ///
     /// # Errors
     ///
-    /// Those of [`LinearMemory::fill`](crate::proved::store::LinearMemory::fill), which does the same.
+    /// In the order of the tests: [`OutOfBoundsAccess`](crate::MemoryError::OutOfBoundsAccess) if a range ends past its memory or segment; [`OutOfFuel`](crate::MemoryError::OutOfFuel), which is tested also if no byte is written. Then no byte is written, and no fuel taken.
     ///
     /// # Contract
     ///
@@ -344,11 +333,11 @@ pub mod memory {
         fill_items(bytes, dst, value, len, OUTSIDE, fuel)
     }
 
-    /// Copies bytes of a memory.
+    /// Copies bytes of a memory, as [`LinearMemory::copy_within`](crate::proved::store::LinearMemory::copy_within) does.
     ///
     /// # Errors
     ///
-    /// Those of [`LinearMemory::copy_within`](crate::proved::store::LinearMemory::copy_within), which does the same.
+    /// In the order of the tests: [`OutOfBoundsAccess`](crate::MemoryError::OutOfBoundsAccess) if a range ends past its memory or segment; [`OutOfFuel`](crate::MemoryError::OutOfFuel), which is tested also if no byte is written. Then no byte is written, and no fuel taken.
     ///
     /// # Contract
     ///
@@ -369,11 +358,11 @@ pub mod memory {
         copy_items_within(bytes, dst, src, len, OUTSIDE, fuel)
     }
 
-    /// Copies bytes to a memory.
+    /// Copies bytes to a memory, as [`LinearMemory::copy`](crate::proved::store::LinearMemory::copy) does.
     ///
     /// # Errors
     ///
-    /// Those of [`LinearMemory::copy`](crate::proved::store::LinearMemory::copy), which does the same.
+    /// In the order of the tests: [`OutOfBoundsAccess`](crate::MemoryError::OutOfBoundsAccess) if a range ends past its memory or segment; [`OutOfFuel`](crate::MemoryError::OutOfFuel), which is tested also if no byte is written. Then no byte is written, and no fuel taken.
     ///
     /// # Contract
     ///
@@ -395,11 +384,11 @@ pub mod memory {
         copy_items(bytes, dst, source, src, len, OUTSIDE, fuel)
     }
 
-    /// Copies a segment to a memory.
+    /// Copies a segment to a memory, as [`LinearMemory::init`](crate::proved::store::LinearMemory::init) does.
     ///
     /// # Errors
     ///
-    /// Those of [`LinearMemory::init`](crate::proved::store::LinearMemory::init), which does the same.
+    /// In the order of the tests: [`OutOfBoundsAccess`](crate::MemoryError::OutOfBoundsAccess) if a range ends past its memory or segment; [`OutOfFuel`](crate::MemoryError::OutOfFuel), which is tested also if no byte is written. Then no byte is written, and no fuel taken.
     ///
     /// # Contract
     ///
@@ -426,9 +415,7 @@ pub mod table {
     //! Tables whose elements are the first of a region of references. The caller keeps a table's type
     //! and its size, and passes them to each call with the region or with the elements; the rest of the
     //! region is room to grow in place. What a growth asks a limiter. A reference is a number, whose
-    //! type is the caller's matter.
-    //!
-    //! Own: upstream's table owns its elements.
+    //! type is the caller's matter. Own: upstream's table owns its elements.
 
     use crate::proved::meter::{Fuel, ResourceLimiter, ResourceLimiterRef, TableError};
     use crate::proved::raw::RawRef;
@@ -457,10 +444,7 @@ pub mod table {
     ///
     /// # Errors
     ///
-    /// In the order of the tests: [`MinimumSizeOverflow`](crate::TableError::MinimumSizeOverflow) if `usize` has 32 bits and the minimum more;
-    /// [`ResourceLimiterDeniedAllocation`](crate::TableError::ResourceLimiterDeniedAllocation) if the limiter doesn't permit it; [`OutOfSystemMemory`](crate::TableError::OutOfSystemMemory) if the
-    /// region is shorter than the minimum, of which the limiter is notified. After an error the region
-    /// is unchanged.
+    /// In the order of the tests: [`MinimumSizeOverflow`](crate::TableError::MinimumSizeOverflow) if `usize` has 32 bits and the minimum more; [`ResourceLimiterDeniedAllocation`](crate::TableError::ResourceLimiterDeniedAllocation) if the limiter doesn't permit it; [`OutOfSystemMemory`](crate::TableError::OutOfSystemMemory) if the region is shorter than the minimum, of which the limiter is notified. After an error the region is unchanged.
     ///
     /// # Contract
     ///
@@ -503,8 +487,7 @@ pub mod table {
     ///
     /// # Errors
     ///
-    /// Those of [`Table::grow_raw`](crate::proved::store::Table::grow_raw), of which [`OutOfSystemMemory`](crate::TableError::OutOfSystemMemory) comes only if the region
-    /// is shorter than the new size. After an error the whole region is unchanged.
+    /// Those of [`Table::grow_raw`](crate::proved::store::Table::grow_raw), of which [`OutOfSystemMemory`](crate::TableError::OutOfSystemMemory) comes only if the region is shorter than the new size. After an error the whole region is unchanged.
     ///
     /// # Panics
     ///
@@ -580,8 +563,7 @@ pub mod table {
     /// # Contract
     ///
     /// ```text
-    /// ensures: MatchOption result
-    ///     (is_indexable ty (size + delta) ≡ false)
+    /// ensures: MatchOption result (is_indexable ty (size + delta) ≡ false)
     ///     (λ asked. (is_indexable ty (size + delta) ≡ true)
     ///     × (asked.0 ≡ size + delta) × (asked.1 ≡ ty.maximum))
     /// ```
@@ -590,8 +572,7 @@ pub mod table {
     #[must_use]
     #[inline]
     pub fn question(ty: TableType, size: usize, delta: u64) -> Option<(usize, Option<usize>)> {
-        let desired = ty.grown_size(size as u64, delta)?;
-        Some((desired, ty.maximum_size()))
+        Some((ty.grown_size(size as u64, delta)?, ty.maximum_size()))
     }
 
     /// Sets the element at an index.
@@ -603,7 +584,7 @@ pub mod table {
     /// # Contract
     ///
     /// ```text
-    /// ensures: SetsTableRaw index reference (table_of ty elements.old) result
+    /// ensures: SetsTableRaw index value (table_of ty elements.old) result
     ///     (table_of ty elements.new)
     /// ```
     ///
@@ -613,13 +594,13 @@ pub mod table {
         ty: TableType,
         elements: &mut [u32],
         index: u64,
-        reference: u32,
+        value: u32,
     ) -> Result<(), TableError> {
         let index = usize::try_from(index).map_err(|_| TableError::SetOutOfBounds)?;
         if index >= elements.len() {
             return Err(TableError::SetOutOfBounds);
         }
-        write_range(elements, index, &[reference]);
+        write_range(elements, index, &[value]);
         Ok(())
     }
 
@@ -627,7 +608,7 @@ pub mod table {
     ///
     /// # Errors
     ///
-    /// Those of [`Table::fill_raw`](crate::proved::store::Table::fill_raw).
+    /// In the order of the tests: [`FillOutOfBounds`](crate::TableError::FillOutOfBounds) if they end past the table; [`OutOfFuel`](crate::TableError::OutOfFuel), which is tested also if no element is filled.
     ///
     /// # Contract
     ///
@@ -655,7 +636,7 @@ pub mod table {
     ///
     /// # Errors
     ///
-    /// Those of [`Table::copy_within`](crate::proved::store::Table::copy_within).
+    /// In the order of the tests: [`CopyOutOfBounds`](crate::TableError::CopyOutOfBounds) if a range ends past the table; [`OutOfFuel`](crate::TableError::OutOfFuel), which is tested also if no element is copied.
     ///
     /// # Contract
     ///
@@ -675,15 +656,14 @@ pub mod table {
         len: u64,
         fuel: &mut Fuel,
     ) -> Result<(), TableError> {
-        let outside = TableError::CopyOutOfBounds;
-        copy_items_within(elements, dst, src, len, outside, fuel)
+        copy_items_within(elements, dst, src, len, TableError::CopyOutOfBounds, fuel)
     }
 
     /// Copies `len` items of a table, from `src` on, over the elements of another table from `dst` on.
     ///
     /// # Errors
     ///
-    /// Those of [`Table::copy`](crate::proved::store::Table::copy).
+    /// In the order of the tests: [`ElementTypeMismatch`](crate::TableError::ElementTypeMismatch) if the types differ; [`CopyOutOfBounds`](crate::TableError::CopyOutOfBounds) if a range ends past its table; [`OutOfFuel`](crate::TableError::OutOfFuel), which is tested also if no element is copied.
     ///
     /// # Contract
     ///
@@ -714,7 +694,7 @@ pub mod table {
     ///
     /// # Errors
     ///
-    /// Those of [`Table::init`](crate::proved::store::Table::init).
+    /// In the order of the tests: [`ElementTypeMismatch`](crate::TableError::ElementTypeMismatch) if the items are of another type; [`InitOutOfBounds`](crate::TableError::InitOutOfBounds) if a range ends past the segment or the table; [`OutOfFuel`](crate::TableError::OutOfFuel).
     ///
     /// # Contract
     ///

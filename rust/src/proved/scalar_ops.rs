@@ -1,8 +1,6 @@
-//! The scalar instructions as values: a variant for each function of a shape, what it gives, and its
-//! name.
+//! The scalar instructions as values: a variant for each function of a shape, result and name.
 //!
-//! The variants of a type stand in the order of its list, which has their names. Own: upstream has
-//! no instructions as values.
+//! A type's variants stand in the order of its list, which has their names. Own: upstream has none.
 mod rows {
     //! Macros over the rows of instructions, which stand as in `wasmi_ops`: lists of names, and matches
     //! that call the functions. A row is a variant and the function of its name; the rows are in groups

@@ -341,7 +341,7 @@ mod printing {
     /// `W` is the type of the writer.
     #[inline]
     fn print_outcome<W: io::Write>(
-        printer: &mut Printer<'_, W>,
+        printer: &mut Printer<W>,
         outcome: &Result<Replayed, ReplayError>,
     ) -> fmt::Result {
         match outcome {
@@ -368,7 +368,7 @@ mod printing {
     /// `W` is the type of the writer.
     #[inline]
     fn print_replies<W: io::Write>(
-        printer: &mut Printer<'_, W>,
+        printer: &mut Printer<W>,
         calls: &[Call],
         replies: &[Reply],
     ) -> fmt::Result {
@@ -392,7 +392,7 @@ mod printing {
     /// `W` is the type of the writer.
     #[inline]
     fn print_reply<W: io::Write>(
-        printer: &mut Printer<'_, W>,
+        printer: &mut Printer<W>,
         call: &Call,
         reply: &Reply,
     ) -> fmt::Result {
@@ -433,7 +433,7 @@ mod printing {
     ///
     /// `W` is the type of the writer.
     #[inline]
-    fn print_held<W: io::Write>(printer: &mut Printer<'_, W>, held: &Held) -> fmt::Result {
+    fn print_held<W: io::Write>(printer: &mut Printer<W>, held: &Held) -> fmt::Result {
         match held {
             Held::Nothing => Ok(()),
             Held::Quota(Amounts { bytes, elements }) => {
@@ -456,7 +456,7 @@ mod printing {
     ///
     /// `W` is the type of the writer.
     #[inline]
-    fn print_tenants<W: io::Write>(printer: &mut Printer<'_, W>, pool: &Pool) -> fmt::Result {
+    fn print_tenants<W: io::Write>(printer: &mut Printer<W>, pool: &Pool) -> fmt::Result {
         for index in 0..pool.len() {
             print_tenant(printer, pool, index)?;
         }
@@ -477,7 +477,7 @@ mod printing {
     /// `W` is the type of the writer.
     #[inline]
     fn print_tenant<W: io::Write>(
-        printer: &mut Printer<'_, W>,
+        printer: &mut Printer<W>,
         pool: &Pool,
         index: usize,
     ) -> fmt::Result {
@@ -926,8 +926,7 @@ mod replaying {
     /// # Contract
     ///
     /// ```text
-    /// ensures ends: Replays
-    ///     (IsOutcomeOfReader (R.remaining reader.old) (R.has_failed reader.new))
+    /// ensures ends: Replays (IsOutcomeOfReader (R.remaining reader.old) (R.has_failed reader.new))
     ///     (W.contents writer.old) (W.contents writer.new) (W.is_flushed writer.new) result
     /// ```
     ///
@@ -1294,8 +1293,7 @@ mod replaying {
         Ok(Ran { replies, held })
     }
 
-    /// Runs the script's parts, each by its tenant, on a pool of new machines with the script's meter and
-    /// its reserved slots.
+    /// Runs the script's parts, each by its tenant, on a pool of new machines with its meter and slots.
     ///
     /// # Contract
     ///

@@ -109,7 +109,7 @@ use Rattle.std.proofs.Common.{ap, sym, ◌∙◌}
 use Rattle.std.proofs.Math.Seq.{take-append_seam, drop-append_seam}
 use Rattle.std.specs.Bool.{Decides, one_answer}
 use Rattle.std.specs.Ordering.{nat_cmp, eq_by_cmp}
-use Rattle.std.specs.Cmp.{IsEquivalence, first_so, second_so, unsigned_ties}
+use Rattle.std.specs.Cmp.{IsEquivalence, decided, first_so, second_so, unsigned_ties}
 use Rattle.std.specs.Cmp.Lexicographic.{pointwise_decides, bytes_decides, lists_ties}
 use Rattle.wasmi_types.specs.declared.value.ValType.{ValType}
 use Rattle.wasmi_types.specs.declared.value.ValType.TheVariants.{I32, I64, F32, F64, V128, FuncRef, ExternRef}
@@ -151,14 +151,6 @@ pub <b id="order_key-one">order_key-one</b> : (a b : <a href="../../types/Functi
     rw (← drop-append_seam a.params a.results, parts.0, joined) (drop-append_seam b.params b.results) in
     λ i. record { params = params i; results = results i }
 
--- a test that decides whether two values are the same is an equivalence
-equivalence_from_decides : {A : Type 0} {E : A → A → Bool} → ((x y : A) → Decides (E x y) (x ≡ y)) → IsEquivalence E
-equivalence_from_decides {E = E} d = record {
-  refl = λ x. (d x x).1 refl;
-  symm = λ x y. one_answer (E x y) (E y x) (d x y) (λ e. sym ((d y x).0 e), λ e. (d y x).1 (sym e));
-  congr = λ x y z e. ap (λ v. E v z) ((d x y).0 e);
-}
-
 module _ {E : ValType → ValType → Bool} (decides : (x y : ValType) → Decides (E x y) (x ≡ y)) where
   -- the test of both lists decides whether two function types are the same
   pub <b id="same_lists_decides">same_lists_decides</b> : (a b : <a href="../../types/FunctionTypeSpecs/index.html#FunctionType">FunctionType</a>) → Decides (<a href="../../types/FunctionTypeSpecs/index.html#same_lists">same_lists</a> E a b) (a ≡ b)
@@ -180,7 +172,7 @@ module _ {E : ValType → ValType → Bool} (decides : (x y : ValType) → Decid
 
   -- the test of both lists is an equivalence
   pub <b id="same_lists_equiv">same_lists_equiv</b> : IsEquivalence (<a href="../../types/FunctionTypeSpecs/index.html#same_lists">same_lists</a> E)
-  <a href="../../types/FunctionTypeProofsSpecs/index.html#same_lists_equiv">same_lists_equiv</a> = equivalence_from_decides <a href="../../types/FunctionTypeProofsSpecs/index.html#same_lists_decides">same_lists_decides</a>
+  <a href="../../types/FunctionTypeProofsSpecs/index.html#same_lists_equiv">same_lists_equiv</a> = decided (<a href="../../types/FunctionTypeSpecs/index.html#same_lists">same_lists</a> E) <a href="../../types/FunctionTypeProofsSpecs/index.html#same_lists_decides">same_lists_decides</a>
 
 -- the derived `==` decides whether two value types, the entries of function types, are the same
 pub <b id="same_type_decides">same_type_decides</b> : (x y : ValType) → Decides (sameb the_type x y) (x ≡ y)
@@ -190,12 +182,12 @@ pub <b id="same_type_decides">same_type_decides</b> : (x y : ValType) → Decide
     pub mod FunctionTypeProofsSpecs {}
     #[doc = r####"Numbers cut to a width of w bits, and numbers in bytes, the lowest byte first.
 
-<pre><code><a href="../../types/NumbersSpecs/index.html#use">use</a> Rattle.std.specs.Prelude.{ℕ, ◌^◌, ℤ, pos, unsigned_abs, ◌+◌, ◌*◌, List, [], ◌∷◌}
-<a href="../../types/NumbersSpecs/index.html#use">use</a> Rattle.std.specs.Int.{int_rem_euclid, bytes_low_first}
-pub <b id="use">use</b> mir.Val.{bits}
+<pre><code>use Rattle.std.specs.Prelude.{ℕ, ◌^◌, ℤ, pos, unsigned_abs, ◌+◌, ◌*◌, List, [], ◌∷◌}
+use Rattle.std.specs.Int.{int_rem_euclid, bytes_low_first}
+pub use mir.Val.{bits}
 -- the widths of 8 to 64 bits; a number below 2 ^ w, less 2 ^ w where it is 2 ^ (w - 1) or more; the nearest number of a
 -- signed or unsigned width
-pub <b id="use">use</b> Rattle.std.specs.Int.{Width, w8, w16, w32, w64, cast_signed as signed, saturate_signed as clamp_signed, saturate_unsigned as clamp_unsigned}
+pub use Rattle.std.specs.Int.{Width, w8, w16, w32, w64, cast_signed as signed, saturate_signed as clamp_signed, saturate_unsigned as clamp_unsigned}
 
 -- the number below 2 ^ w that differs from z by a multiple of 2 ^ w
 abbrev pub <b id="wrap">wrap</b> : Width → ℤ → ℕ
@@ -318,35 +310,28 @@ use Rattle.wasmi_types.specs.declared.trap.TrapCode.TheVariants.{UnreachableCode
 use Rattle.std.specs.Fmt.{signed_decimal}
 use Rattle.wasmi_types.specs.declared.trap.TrapReason.TheVariants.{InstructionTrap, I32Exit, Message, Host}
 
+-- the row of a trap code: the number that stands for it, and its text
+abbrev pub <b id="code_row">code_row</b> : TrapCode → ℕ × List ℕ
+<a href="../../types/TrapSpecs/index.html#code_row">code_row</a> UnreachableCodeReached = (1, codes "wasm `unreachable` instruction executed")
+<a href="../../types/TrapSpecs/index.html#code_row">code_row</a> MemoryOutOfBounds = (2, codes "out of bounds memory access")
+<a href="../../types/TrapSpecs/index.html#code_row">code_row</a> TableOutOfBounds = (3, codes "undefined element: out of bounds table access")
+<a href="../../types/TrapSpecs/index.html#code_row">code_row</a> IndirectCallToNull = (4, codes "uninitialized element 2")
+<a href="../../types/TrapSpecs/index.html#code_row">code_row</a> IntegerDivisionByZero = (5, codes "integer divide by zero")
+<a href="../../types/TrapSpecs/index.html#code_row">code_row</a> IntegerOverflow = (6, codes "integer overflow")
+<a href="../../types/TrapSpecs/index.html#code_row">code_row</a> BadConversionToInteger = (7, codes "invalid conversion to integer")
+<a href="../../types/TrapSpecs/index.html#code_row">code_row</a> StackOverflow = (8, codes "call stack exhausted")
+<a href="../../types/TrapSpecs/index.html#code_row">code_row</a> BadSignature = (9, codes "indirect call type mismatch")
+<a href="../../types/TrapSpecs/index.html#code_row">code_row</a> OutOfFuel = (10, codes "all fuel consumed by WebAssembly")
+<a href="../../types/TrapSpecs/index.html#code_row">code_row</a> GrowthOperationLimited = (11, codes "growth operation limited")
+<a href="../../types/TrapSpecs/index.html#code_row">code_row</a> OutOfSystemMemory = (12, codes "out of system memory")
+
 -- the number that stands for a trap code
 abbrev pub <b id="code_number">code_number</b> : TrapCode → ℕ
-<a href="../../types/TrapSpecs/index.html#code_number">code_number</a> UnreachableCodeReached = 1
-<a href="../../types/TrapSpecs/index.html#code_number">code_number</a> MemoryOutOfBounds = 2
-<a href="../../types/TrapSpecs/index.html#code_number">code_number</a> TableOutOfBounds = 3
-<a href="../../types/TrapSpecs/index.html#code_number">code_number</a> IndirectCallToNull = 4
-<a href="../../types/TrapSpecs/index.html#code_number">code_number</a> IntegerDivisionByZero = 5
-<a href="../../types/TrapSpecs/index.html#code_number">code_number</a> IntegerOverflow = 6
-<a href="../../types/TrapSpecs/index.html#code_number">code_number</a> BadConversionToInteger = 7
-<a href="../../types/TrapSpecs/index.html#code_number">code_number</a> StackOverflow = 8
-<a href="../../types/TrapSpecs/index.html#code_number">code_number</a> BadSignature = 9
-<a href="../../types/TrapSpecs/index.html#code_number">code_number</a> OutOfFuel = 10
-<a href="../../types/TrapSpecs/index.html#code_number">code_number</a> GrowthOperationLimited = 11
-<a href="../../types/TrapSpecs/index.html#code_number">code_number</a> OutOfSystemMemory = 12
+<a href="../../types/TrapSpecs/index.html#code_number">code_number</a> code = (<a href="../../types/TrapSpecs/index.html#code_row">code_row</a> code).0
 
 -- the text of a trap code
 abbrev pub <b id="code_message">code_message</b> : TrapCode → List ℕ
-<a href="../../types/TrapSpecs/index.html#code_message">code_message</a> UnreachableCodeReached = codes "wasm `unreachable` instruction executed"
-<a href="../../types/TrapSpecs/index.html#code_message">code_message</a> MemoryOutOfBounds = codes "out of bounds memory access"
-<a href="../../types/TrapSpecs/index.html#code_message">code_message</a> TableOutOfBounds = codes "undefined element: out of bounds table access"
-<a href="../../types/TrapSpecs/index.html#code_message">code_message</a> IndirectCallToNull = codes "uninitialized element 2"
-<a href="../../types/TrapSpecs/index.html#code_message">code_message</a> IntegerDivisionByZero = codes "integer divide by zero"
-<a href="../../types/TrapSpecs/index.html#code_message">code_message</a> IntegerOverflow = codes "integer overflow"
-<a href="../../types/TrapSpecs/index.html#code_message">code_message</a> BadConversionToInteger = codes "invalid conversion to integer"
-<a href="../../types/TrapSpecs/index.html#code_message">code_message</a> StackOverflow = codes "call stack exhausted"
-<a href="../../types/TrapSpecs/index.html#code_message">code_message</a> BadSignature = codes "indirect call type mismatch"
-<a href="../../types/TrapSpecs/index.html#code_message">code_message</a> OutOfFuel = codes "all fuel consumed by WebAssembly"
-<a href="../../types/TrapSpecs/index.html#code_message">code_message</a> GrowthOperationLimited = codes "growth operation limited"
-<a href="../../types/TrapSpecs/index.html#code_message">code_message</a> OutOfSystemMemory = codes "out of system memory"
+<a href="../../types/TrapSpecs/index.html#code_message">code_message</a> code = (<a href="../../types/TrapSpecs/index.html#code_row">code_row</a> code).1
 
 -- the answer is the trap code with this number, or the error where no trap code has it
 pub record <b id="IsCodeOf">IsCodeOf</b> (number : ℕ) (answer : Result TrapCode InvalidTrapCode) : Type 0 where
@@ -650,14 +635,14 @@ abbrev pub <b id="IsSameOutside">IsSameOutside</b> : List ℕ → List ℕ → �
 pub mod scalar {
     #[doc = r####"The integer operations of the WebAssembly core specification (section "Numerics"), over whole numbers. A number of a signed type is read signed, one of an unsigned type unsigned, and \`w\` is the width of the type, of \`bits w\` bits. std's words for the two readings: \`int\_wrap w z\` is the number of the signed type that differs from z by a multiple of 2 to the power \`bits w\` (the standard's \`wrap\` and \`extend\_s\`), \`cast\_unsigned w z\` the unsigned number with the bits of z, \`cast\_signed w n\` the signed number with the bits of n.
 
-<pre><code><a href="../../scalar/NumericsSpecs/index.html#use">use</a> Rattle.std.specs.Prelude.{ℕ, ◌+◌, ◌-◌, ◌*◌, ◌/◌, ◌%◌, ◌^◌, ℤ, pos, ◌+ℤ◌, ◌-ℤ◌, ◌*ℤ◌, int_div, int_rem, int_lt, int_le, nat_lt, nat_le, ◌==◌, not, Bool, bit_and, bit_or, bit_xor, count_ones, Result, Ok, Err, if◌then◌else◌}
-<a href="../../scalar/NumericsSpecs/index.html#use">use</a> Rattle.std.specs.Int.{Width, cast_signed, cast_unsigned, int_wrap, int_shr, leading_zeros, trailing_zeros, w64}
-<a href="../../scalar/NumericsSpecs/index.html#use">use</a> Rattle.std.specs.Ordering.{int_eq}
-<a href="../../scalar/NumericsSpecs/index.html#use">use</a> mir.Val.{bits}
-<a href="../../scalar/NumericsSpecs/index.html#use">use</a> Rattle.wasmi_types.specs.declared.trap.TrapCode.{TrapCode}
-<a href="../../scalar/NumericsSpecs/index.html#use">use</a> Rattle.wasmi_types.specs.declared.trap.TrapCode.TheVariants.{IntegerDivisionByZero, IntegerOverflow}
+<pre><code>use Rattle.std.specs.Prelude.{ℕ, ◌+◌, ◌-◌, ◌*◌, ◌/◌, ◌%◌, ◌^◌, ℤ, pos, ◌+ℤ◌, ◌-ℤ◌, ◌*ℤ◌, int_div, int_rem, int_lt, int_le, nat_lt, nat_le, ◌==◌, not, Bool, bit_and, bit_or, bit_xor, count_ones, Result, Ok, Err, if◌then◌else◌}
+use Rattle.std.specs.Int.{Width, cast_signed, cast_unsigned, int_wrap, int_shr, leading_zeros, trailing_zeros, w64}
+use Rattle.std.specs.Ordering.{int_eq}
+use mir.Val.{bits}
+use Rattle.wasmi_types.specs.declared.trap.TrapCode.{TrapCode}
+use Rattle.wasmi_types.specs.declared.trap.TrapCode.TheVariants.{IntegerDivisionByZero, IntegerOverflow}
 -- an instruction gives this, where a function reads the number of its value
-pub <b id="use">use</b> Rattle.wasmi_access.specs.LoadStore.{<a href="../../accesses/LoadStoreSpecs/index.html#GivesNumber">GivesNumber</a>}
+pub use Rattle.wasmi_access.specs.LoadStore.{<a href="../../accesses/LoadStoreSpecs/index.html#GivesNumber">GivesNumber</a>}
 
 -- ---- sums and products
 
@@ -1013,9 +998,8 @@ abbrev pub <b id="AreFilled">AreFilled</b> : Width → ℕ → ℕ → Type 0
 pub mod lanewise {
     #[doc = r####"The lane by lane vector instructions of the WebAssembly core specification (section "Numerics", "Vector Operations"): what each gives, over whole numbers. A vector is a number below 2 ^ 128, w is the width of a lane, and each lane's number is read as it is (\`unsigned\`) or as a signed number (\`signed w\`). A lane is computed without bounds, then wrapped or clamped.
 
-<pre><code>use Rattle.std.specs.Prelude.{ℕ, ◌+◌, ◌-◌, ◌*◌, ◌/◌, ◌%◌, ◌^◌, min, max, nat_eq, nat_lt, nat_le, not, ℤ, pos, ◌+ℤ◌, ◌-ℤ◌, ◌*ℤ◌, unsigned_abs, bit_and, bit_or, bit_xor, count_ones, List, slice_index, if◌then◌else◌}
+<pre><code>use Rattle.std.specs.Prelude.{ℕ, ◌+◌, ◌-◌, ◌*◌, ◌/◌, ◌%◌, ◌^◌, min, max, nat_eq, nat_lt, nat_le, not, ℤ, pos, ◌+ℤ◌, ◌-ℤ◌, ◌*ℤ◌, unsigned_abs, bit_and, bit_or, bit_xor, count_ones, List, slice_index, if◌then◌else◌, int_lt, int_le}
 use Rattle.std.specs.Int.{int_min, int_max, int_shr}
-use Rattle.std.specs.Int.RustNames.{int_lt, int_le}
 use Rattle.wasmi_types.specs.Numbers.{Width, w8, w16, bits, signed, <a href="../../types/NumbersSpecs/index.html#wrap">wrap</a>, clamp_signed, clamp_unsigned}
 use Rattle.wasmi_lanes.specs.Vector.{<a href="../../lanes/VectorSpecs/index.html#lane">lane</a>, <a href="../../lanes/VectorSpecs/index.html#unsigned">unsigned</a>, <a href="../../lanes/VectorSpecs/index.html#from_lanes">from_lanes</a>, <a href="../../lanes/VectorSpecs/index.html#unary_of_lanes">unary_of_lanes</a>, <a href="../../lanes/VectorSpecs/index.html#binary_of_lanes">binary_of_lanes</a>, <a href="../../lanes/VectorSpecs/index.html#comparison_of_lanes">comparison_of_lanes</a>, <a href="../../lanes/VectorSpecs/index.html#splat_of">splat_of</a>, <a href="../../lanes/VectorSpecs/index.html#with_lane">with_lane</a>}
 
@@ -1882,16 +1866,16 @@ abbrev pub <b id="vector_load_name">vector_load_name</b> : VectorLoadOp → List
 pub mod scalar_ops {
     #[doc = r####"The scalar instructions: a row for each, its name and what it gives, as raw values.
 
-<pre><code><a href="../../scalar_ops/ScalarOpsSpecs/index.html#use">use</a> Rattle.std.specs.Prelude.{Bool, ℤ, Result, Ok, ℕ, List, codes, ◌*◌, ◌*ℤ◌}
-<a href="../../scalar_ops/ScalarOpsSpecs/index.html#use">use</a> Rattle.std.specs.Int.{Width, cast_unsigned, from_bool, w8, w16, w32, w64, int_wrap, w128}
-<a href="../../scalar_ops/ScalarOpsSpecs/index.html#use">use</a> Rattle.wasmi_types.specs.declared.trap.TrapCode.{TrapCode}
-<a href="../../scalar_ops/ScalarOpsSpecs/index.html#use">use</a> Rattle.wasmi_raw.specs.declared.raw.RawVal.{RawVal}
-<a href="../../scalar_ops/ScalarOpsSpecs/index.html#use">use</a> Rattle.wasmi_raw.specs.RawVal.{<a href="../../raw/RawValSpecs/index.html#raw_of">raw_of</a>, <a href="../../raw/RawValSpecs/index.html#signed_in">signed_in</a>, <a href="../../raw/RawValSpecs/index.html#unsigned_in">unsigned_in</a>, <a href="../../raw/RawValSpecs/index.html#raw_of_vector">raw_of_vector</a>, <a href="../../raw/RawValSpecs/index.html#vector_in">vector_in</a>}
-<a href="../../scalar_ops/ScalarOpsSpecs/index.html#use">use</a> Rattle.wasmi_scalar.specs.Numerics.{<a href="../../scalar/NumericsSpecs/index.html#iclz">iclz</a>, <a href="../../scalar/NumericsSpecs/index.html#ictz">ictz</a>, <a href="../../scalar/NumericsSpecs/index.html#ipopcnt">ipopcnt</a>, <a href="../../scalar/NumericsSpecs/index.html#ieqz">ieqz</a>, <a href="../../scalar/NumericsSpecs/index.html#iadd">iadd</a>, <a href="../../scalar/NumericsSpecs/index.html#isub">isub</a>, <a href="../../scalar/NumericsSpecs/index.html#imul">imul</a>, <a href="../../scalar/NumericsSpecs/index.html#idiv_s">idiv_s</a>, <a href="../../scalar/NumericsSpecs/index.html#idiv_u">idiv_u</a>, <a href="../../scalar/NumericsSpecs/index.html#irem_s">irem_s</a>, <a href="../../scalar/NumericsSpecs/index.html#irem_u">irem_u</a>, <a href="../../scalar/NumericsSpecs/index.html#iand">iand</a>, <a href="../../scalar/NumericsSpecs/index.html#ior">ior</a>, <a href="../../scalar/NumericsSpecs/index.html#ixor">ixor</a>, <a href="../../scalar/NumericsSpecs/index.html#ishl">ishl</a>, <a href="../../scalar/NumericsSpecs/index.html#ishr_s">ishr_s</a>, <a href="../../scalar/NumericsSpecs/index.html#ishr_u">ishr_u</a>, <a href="../../scalar/NumericsSpecs/index.html#irotl">irotl</a>, <a href="../../scalar/NumericsSpecs/index.html#irotr">irotr</a>, <a href="../../scalar/NumericsSpecs/index.html#ieq">ieq</a>, <a href="../../scalar/NumericsSpecs/index.html#ine">ine</a>, <a href="../../scalar/NumericsSpecs/index.html#ilt_s">ilt_s</a>, <a href="../../scalar/NumericsSpecs/index.html#ilt_u">ilt_u</a>, <a href="../../scalar/NumericsSpecs/index.html#igt_s">igt_s</a>, <a href="../../scalar/NumericsSpecs/index.html#igt_u">igt_u</a>, <a href="../../scalar/NumericsSpecs/index.html#ile_s">ile_s</a>, <a href="../../scalar/NumericsSpecs/index.html#ile_u">ile_u</a>, <a href="../../scalar/NumericsSpecs/index.html#ige_s">ige_s</a>, <a href="../../scalar/NumericsSpecs/index.html#ige_u">ige_u</a>, <a href="../../scalar/NumericsSpecs/index.html#add128">add128</a>, <a href="../../scalar/NumericsSpecs/index.html#sub128">sub128</a>}
-<a href="../../scalar_ops/ScalarOpsSpecs/index.html#use">use</a> Rattle.wasmi_scalar_ops.specs.declared.{scalar.ScalarUnaryOp.ScalarUnaryOp, scalar.ScalarBinaryOp.ScalarBinaryOp}
-<a href="../../scalar_ops/ScalarOpsSpecs/index.html#use">use</a> Rattle.wasmi_scalar_ops.specs.declared.scalar.ScalarUnaryOp.TheVariants as unary
-<a href="../../scalar_ops/ScalarOpsSpecs/index.html#use">use</a> Rattle.wasmi_scalar_ops.specs.declared.scalar.ScalarBinaryOp.TheVariants as binary
-pub <b id="use">use</b> Rattle.wasmi_ops.specs.LoadStoreOps.{<a href="../../ops/LoadStoreOpsSpecs/index.html#signed_raw">signed_raw</a>, <a href="../../ops/LoadStoreOpsSpecs/index.html#as_raw">as_raw</a>, <a href="../../ops/LoadStoreOpsSpecs/index.html#RawLoad">RawLoad</a>, <a href="../../ops/LoadStoreOpsSpecs/index.html#sign_extended">sign_extended</a>, <a href="../../ops/LoadStoreOpsSpecs/index.html#zero_extended">zero_extended</a>, <a href="../../ops/LoadStoreOpsSpecs/index.html#unextended">unextended</a>, <a href="../../ops/LoadStoreOpsSpecs/index.html#load_row">load_row</a>, <a href="../../ops/LoadStoreOpsSpecs/index.html#loaded_raw">loaded_raw</a>, <a href="../../ops/LoadStoreOpsSpecs/index.html#load_name">load_name</a>, <a href="../../ops/LoadStoreOpsSpecs/index.html#store_row">store_row</a>, <a href="../../ops/LoadStoreOpsSpecs/index.html#stored_bytes">stored_bytes</a>, <a href="../../ops/LoadStoreOpsSpecs/index.html#store_name">store_name</a>}
+<pre><code>use Rattle.std.specs.Prelude.{Bool, ℤ, Result, Ok, ℕ, List, codes, ◌*◌, ◌*ℤ◌}
+use Rattle.std.specs.Int.{Width, cast_unsigned, from_bool, w8, w16, w32, w64, int_wrap, w128}
+use Rattle.wasmi_types.specs.declared.trap.TrapCode.{TrapCode}
+use Rattle.wasmi_raw.specs.declared.raw.RawVal.{RawVal}
+use Rattle.wasmi_raw.specs.RawVal.{<a href="../../raw/RawValSpecs/index.html#raw_of">raw_of</a>, <a href="../../raw/RawValSpecs/index.html#signed_in">signed_in</a>, <a href="../../raw/RawValSpecs/index.html#unsigned_in">unsigned_in</a>, <a href="../../raw/RawValSpecs/index.html#raw_of_vector">raw_of_vector</a>, <a href="../../raw/RawValSpecs/index.html#vector_in">vector_in</a>}
+use Rattle.wasmi_scalar.specs.Numerics.{<a href="../../scalar/NumericsSpecs/index.html#iclz">iclz</a>, <a href="../../scalar/NumericsSpecs/index.html#ictz">ictz</a>, <a href="../../scalar/NumericsSpecs/index.html#ipopcnt">ipopcnt</a>, <a href="../../scalar/NumericsSpecs/index.html#ieqz">ieqz</a>, <a href="../../scalar/NumericsSpecs/index.html#iadd">iadd</a>, <a href="../../scalar/NumericsSpecs/index.html#isub">isub</a>, <a href="../../scalar/NumericsSpecs/index.html#imul">imul</a>, <a href="../../scalar/NumericsSpecs/index.html#idiv_s">idiv_s</a>, <a href="../../scalar/NumericsSpecs/index.html#idiv_u">idiv_u</a>, <a href="../../scalar/NumericsSpecs/index.html#irem_s">irem_s</a>, <a href="../../scalar/NumericsSpecs/index.html#irem_u">irem_u</a>, <a href="../../scalar/NumericsSpecs/index.html#iand">iand</a>, <a href="../../scalar/NumericsSpecs/index.html#ior">ior</a>, <a href="../../scalar/NumericsSpecs/index.html#ixor">ixor</a>, <a href="../../scalar/NumericsSpecs/index.html#ishl">ishl</a>, <a href="../../scalar/NumericsSpecs/index.html#ishr_s">ishr_s</a>, <a href="../../scalar/NumericsSpecs/index.html#ishr_u">ishr_u</a>, <a href="../../scalar/NumericsSpecs/index.html#irotl">irotl</a>, <a href="../../scalar/NumericsSpecs/index.html#irotr">irotr</a>, <a href="../../scalar/NumericsSpecs/index.html#ieq">ieq</a>, <a href="../../scalar/NumericsSpecs/index.html#ine">ine</a>, <a href="../../scalar/NumericsSpecs/index.html#ilt_s">ilt_s</a>, <a href="../../scalar/NumericsSpecs/index.html#ilt_u">ilt_u</a>, <a href="../../scalar/NumericsSpecs/index.html#igt_s">igt_s</a>, <a href="../../scalar/NumericsSpecs/index.html#igt_u">igt_u</a>, <a href="../../scalar/NumericsSpecs/index.html#ile_s">ile_s</a>, <a href="../../scalar/NumericsSpecs/index.html#ile_u">ile_u</a>, <a href="../../scalar/NumericsSpecs/index.html#ige_s">ige_s</a>, <a href="../../scalar/NumericsSpecs/index.html#ige_u">ige_u</a>, <a href="../../scalar/NumericsSpecs/index.html#add128">add128</a>, <a href="../../scalar/NumericsSpecs/index.html#sub128">sub128</a>}
+use Rattle.wasmi_scalar_ops.specs.declared.{scalar.ScalarUnaryOp.ScalarUnaryOp, scalar.ScalarBinaryOp.ScalarBinaryOp}
+use Rattle.wasmi_scalar_ops.specs.declared.scalar.ScalarUnaryOp.TheVariants as unary
+use Rattle.wasmi_scalar_ops.specs.declared.scalar.ScalarBinaryOp.TheVariants as binary
+pub use Rattle.wasmi_ops.specs.LoadStoreOps.{<a href="../../ops/LoadStoreOpsSpecs/index.html#signed_raw">signed_raw</a>, <a href="../../ops/LoadStoreOpsSpecs/index.html#as_raw">as_raw</a>, <a href="../../ops/LoadStoreOpsSpecs/index.html#RawLoad">RawLoad</a>, <a href="../../ops/LoadStoreOpsSpecs/index.html#sign_extended">sign_extended</a>, <a href="../../ops/LoadStoreOpsSpecs/index.html#zero_extended">zero_extended</a>, <a href="../../ops/LoadStoreOpsSpecs/index.html#unextended">unextended</a>, <a href="../../ops/LoadStoreOpsSpecs/index.html#load_row">load_row</a>, <a href="../../ops/LoadStoreOpsSpecs/index.html#loaded_raw">loaded_raw</a>, <a href="../../ops/LoadStoreOpsSpecs/index.html#load_name">load_name</a>, <a href="../../ops/LoadStoreOpsSpecs/index.html#store_row">store_row</a>, <a href="../../ops/LoadStoreOpsSpecs/index.html#stored_bytes">stored_bytes</a>, <a href="../../ops/LoadStoreOpsSpecs/index.html#store_name">store_name</a>}
 
 -- the raw value of a Boolean, 0 or 1
 abbrev pub <b id="bool_raw">bool_raw</b> : Bool → RawVal
@@ -2077,8 +2061,7 @@ abbrev pub <b id="answer_list_rules">answer_list_rules</b> : <a href="../../mete
     pub mod AnswerListSpecs {}
     #[doc = r####"A limiter of one of three kinds: its rules, and the quota and the caps that it has, if it is a quota.
 
-<pre><code>use Rattle.std.specs.Prelude.{◌≡◌, Option, Some, None, Ok, true}
-use Rattle.std.specs.Option.{option_map}
+<pre><code>use Rattle.std.specs.Prelude.{◌≡◌, Option, Some, None, Ok, true, option_map}
 use Rattle.wasmi_meter.specs.declared.{quota.Amounts.Amounts, any_limiter.AnyLimiter.AnyLimiter, quota.Quota.Quota}
 use Rattle.wasmi_meter.specs.declared.any_limiter.AnyLimiter.TheVariants as limiter
 use Rattle.wasmi_meter.specs.Capped.{<a href="../../meter/CappedSpecs/index.html#amounts_of">amounts_of</a>, <a href="../../meter/CappedSpecs/index.html#cap_of">cap_of</a>, <a href="../../meter/CappedSpecs/index.html#quota_rules">quota_rules</a>}
@@ -2116,8 +2099,7 @@ abbrev pub <b id="caps_of">caps_of</b> : AnyLimiter → Option Amounts
     pub mod AnyLimiterSpecs {}
     #[doc = r####"An attempt, which is one creation or growth of a value with its meter and its limiter: what it begins with, what is asked and paid, what is due and whether that is left, how it can end, and which answer, charge and value each end means.
 
-<pre><code>use Rattle.std.specs.Prelude.{◌≡◌, ℕ, Bool, true, nat_le, is_none, ◌&amp;&amp;◌, if◌then◌else◌, MatchBool, Option, Some, None, Result, Ok, Err}
-use Rattle.std.specs.Option.{option_map}
+<pre><code>use Rattle.std.specs.Prelude.{◌≡◌, ℕ, Bool, true, nat_le, is_none, ◌&amp;&amp;◌, if◌then◌else◌, MatchBool, Option, Some, None, Result, Ok, Err, option_map}
 use Rattle.wasmi_meter.specs.declared.fuel.CustomFuelCosts.{CustomFuelCosts}
 use Rattle.wasmi_meter.specs.Limiter.{<a href="../../meter/LimiterSpecs/index.html#Question">Question</a>, <a href="../../meter/LimiterSpecs/index.html#Failure">Failure</a>, <a href="../../meter/LimiterSpecs/index.html#Answer">Answer</a>, <a href="../../meter/LimiterSpecs/index.html#NoticeAnswer">NoticeAnswer</a>, <a href="../../meter/LimiterSpecs/index.html#IsDenial">IsDenial</a>, <a href="../../meter/LimiterSpecs/index.html#Rules">Rules</a>}
 use Rattle.wasmi_meter.specs.Meter.{<a href="../../meter/MeterSpecs/index.html#Meter">Meter</a>, <a href="../../meter/MeterSpecs/index.html#amount_left">amount_left</a>, <a href="../../meter/MeterSpecs/index.html#meter_after">meter_after</a>, <a href="../../meter/MeterSpecs/index.html#due">due</a>}
@@ -2411,7 +2393,7 @@ module _ {L : Type 0} (c : <a href="../../meter/CappedSpecs/index.html#Capped">C
     pub mod CappedProofsSpecs {}
     #[doc = r####"What a limiter is asked and told and what it answers, its rules, a limiter that may be absent, and the loan of a limiter by a reference to one.
 
-<pre><code>use Rattle.std.specs.Prelude.{◌≡◌, ℕ, Option, Some, None, Result, Ok, Bool, true}
+<pre><code>use Rattle.std.specs.Prelude.{◌≡◌, ℕ, Option, Some, None, Result, Ok, Bool, true, option_map}
 use Rattle.wasmi_meter.specs.declared.{limiter.Kind.Kind, error.LimiterError.LimiterError, error.MemoryError.MemoryError, error.TableError.TableError, limiter.LimiterRef.LimiterRef}
 use Rattle.wasmi_meter.specs.declared.limiter.Kind.TheVariants.{Bytes, Elements}
 use Rattle.std.specs.Option.{option_copied_mut}
@@ -2494,21 +2476,11 @@ abbrev pub <b id="SameLoan">SameLoan</b> : {L : Type 0} → Option (MutBor L) �
 abbrev pub <b id="KeepsLoan">KeepsLoan</b> : {L : Type 0} → LimiterRef (MutBor L) → LimiterRef (MutBor L) → Type 0
 <a href="../../meter/LimiterSpecs/index.html#KeepsLoan">KeepsLoan</a> r r&#x27; = <a href="../../meter/LimiterSpecs/index.html#SameLoan">SameLoan</a> r.limiter r&#x27;.limiter
 
--- what a reference shows, if there is one
-abbrev pub <b id="shown_of">shown_of</b> : {R L : Type 0} → (R → L) → Option R → Option L
-<a href="../../meter/LimiterSpecs/index.html#shown_of">shown_of</a> shown None = None
-<a href="../../meter/LimiterSpecs/index.html#shown_of">shown_of</a> shown (Some r) = Some (shown r)
-
--- the reference, whose limiter is l now
-abbrev pub <b id="ending_with">ending_with</b> : {R L : Type 0} → (R → L → R) → Option R → L → Option R
-<a href="../../meter/LimiterSpecs/index.html#ending_with">ending_with</a> last None l = None
-<a href="../../meter/LimiterSpecs/index.html#ending_with">ending_with</a> last (Some r) l = Some (last r l)
-
 -- r lends the limiter out of s, and s ends with the last value that was written through it
 abbrev pub <b id="LendsLimiter">LendsLimiter</b> : (R L : RattleType) → (R.Denot → L.Denot → R.Denot) → MutBor (LimiterRef R.Denot)
     → Option (MutBor L.Denot) → Fml
 <a href="../../meter/LimiterSpecs/index.html#LendsLimiter">LendsLimiter</a> R L last s r =
-    LendsIf (the_row R) L s r (λ l. record s.now { limiter = <a href="../../meter/LimiterSpecs/index.html#ending_with">ending_with</a> last s.now.limiter l }) s.now
+    LendsIf (the_row R) L s r (λ l. record s.now { limiter = option_map (λ lender. last lender l) s.now.limiter }) s.now
 </code></pre>
 "####]
     pub mod LimiterSpecs {}
@@ -2600,8 +2572,7 @@ abbrev pub <b id="copy_cost">copy_cost</b> : CustomFuelCosts → ℕ → ℕ →
     pub mod MeterSpecs {}
     #[doc = r####"The texts of errors of fuel meters, limiters, memories and tables: words, and the number after them, if any.
 
-<pre><code>use Rattle.std.specs.Prelude.{ℕ, List, ◌++◌, Option, None, Some, codes}
-use Rattle.std.specs.Fmt.{decimal}
+<pre><code>use Rattle.std.specs.Prelude.{ℕ, List, ◌++◌, Option, None, Some, codes, decimal}
 use Rattle.wasmi_meter.specs.declared.{error.LimiterError.LimiterError, error.MemoryError.MemoryError, error.TableError.TableError, fuel.FuelError.FuelError}
 use Rattle.wasmi_meter.specs.declared.error.LimiterError.TheVariants as limiter
 use Rattle.wasmi_meter.specs.declared.error.MemoryError.TheVariants as memory
@@ -2823,7 +2794,7 @@ use Rattle.wasmi_meter.specs.Limiter.{<a href="../../meter/LimiterSpecs/index.ht
 use Rattle.wasmi_meter.specs.Meter.{<a href="../../meter/MeterSpecs/index.html#copy_cost">copy_cost</a>}
 use Rattle.wasmi_meter.specs.Attempt.{<a href="../../meter/AttemptSpecs/index.html#MeteredValue">MeteredValue</a>, <a href="../../meter/AttemptSpecs/index.html#Request">Request</a>}
 use Rattle.wasmi_store.specs.Buffer.{<a href="../../store/BufferSpecs/index.html#BufferValue">BufferValue</a>, <a href="../../store/BufferSpecs/index.html#Room">Room</a>, <a href="../../store/BufferSpecs/index.html#Owned">Owned</a>, <a href="../../store/BufferSpecs/index.html#fits_room">fits_room</a>, <a href="../../store/BufferSpecs/index.html#LacksMemory">LacksMemory</a>, <a href="../../store/BufferSpecs/index.html#zeros_in">zeros_in</a>, <a href="../../store/BufferSpecs/index.html#with_zeros">with_zeros</a>}
-use Rattle.wasmi_store.specs.Growth.{<a href="../../store/GrowthSpecs/index.html#WithCharge">WithCharge</a>, <a href="../../store/GrowthSpecs/index.html#Makes">Makes</a>, <a href="../../store/GrowthSpecs/index.html#Grows">Grows</a>}
+use Rattle.wasmi_store.specs.Growth.{<a href="../../store/GrowthSpecs/index.html#WithCharge">WithCharge</a>, <a href="../../store/GrowthSpecs/index.html#Makes">Makes</a>, <a href="../../store/GrowthSpecs/index.html#Growth">Growth</a>, <a href="../../store/GrowthSpecs/index.html#Grows">Grows</a>}
 use Rattle.wasmi_store.specs.Write.{<a href="../../store/WriteSpecs/index.html#filled">filled</a>, <a href="../../store/WriteSpecs/index.html#copied">copied</a>, <a href="../../store/WriteSpecs/index.html#item_price">item_price</a>, <a href="../../store/WriteSpecs/index.html#MeteredWrite">MeteredWrite</a>, <a href="../../store/WriteSpecs/index.html#WritesCharging">WritesCharging</a>}
 
 -- an optional maximum is no looser than another
@@ -2978,12 +2949,14 @@ abbrev pub <b id="PermitsMinimum">PermitsMinimum</b> : {S : Type 0} → <a href=
     × rules.asked l (<a href="../../store/MemorySpecs/index.html#creation_of">creation_of</a> <a href="../../store/BufferSpecs/index.html#Owned">Owned</a> <a href="../../store/MemorySpecs/index.html#ty">ty</a>).question (Ok true) l&#x27;
 <a href="../../store/MemorySpecs/index.html#PermitsMinimum">PermitsMinimum</a> rules <a href="../../store/MemorySpecs/index.html#ty">ty</a> l (Err error) l&#x27; = (<a href="../../store/MemorySpecs/index.html#room">room</a> : <a href="../../store/BufferSpecs/index.html#Room">Room</a>) → <a href="../../store/MemorySpecs/index.html#MakesMemory">MakesMemory</a> rules <a href="../../store/MemorySpecs/index.html#room">room</a> <a href="../../store/MemorySpecs/index.html#ty">ty</a> l (Err error) l&#x27;
 
+-- the growth of a memory by so many pages
+abbrev pub <b id="memory_growth">memory_growth</b> : ℕ → <a href="../../store/MemorySpecs/index.html#MemoryValue">MemoryValue</a> → <a href="../../store/GrowthSpecs/index.html#Growth">Growth</a> <a href="../../store/MemorySpecs/index.html#MemoryValue">MemoryValue</a> MemoryError
+<a href="../../store/MemorySpecs/index.html#memory_growth">memory_growth</a> pages x = record { amount = pages; size = <a href="../../store/MemorySpecs/index.html#pages_of">pages_of</a> x; request = <a href="../../store/MemorySpecs/index.html#growth_of">growth_of</a> x pages }
+
 -- a memory grows by so many pages, with this charge; it returns the old size in pages
 abbrev pub <b id="GrowsMemoryCharging">GrowsMemoryCharging</b> : {S : Type 0} → <a href="../../meter/LimiterSpecs/index.html#Rules">Rules</a> S → ℕ → <a href="../../meter/AttemptSpecs/index.html#MeteredValue">MeteredValue</a> <a href="../../store/MemorySpecs/index.html#MemoryValue">MemoryValue</a> S → Result ℕ MemoryError → ℕ
     → <a href="../../meter/AttemptSpecs/index.html#MeteredValue">MeteredValue</a> <a href="../../store/MemorySpecs/index.html#MemoryValue">MemoryValue</a> S → Type 0
-<a href="../../store/MemorySpecs/index.html#GrowsMemoryCharging">GrowsMemoryCharging</a> rules pages s result charge s&#x27; =
-    <a href="../../store/GrowthSpecs/index.html#Grows">Grows</a> rules (record { amount = pages; size = <a href="../../store/MemorySpecs/index.html#pages_of">pages_of</a> s.value; request = <a href="../../store/MemorySpecs/index.html#growth_of">growth_of</a> s.value pages }) s result charge
-    s&#x27;
+<a href="../../store/MemorySpecs/index.html#GrowsMemoryCharging">GrowsMemoryCharging</a> rules pages s result charge s&#x27; = <a href="../../store/GrowthSpecs/index.html#Grows">Grows</a> rules (<a href="../../store/MemorySpecs/index.html#memory_growth">memory_growth</a> pages s.value) s result charge s&#x27;
 
 -- a memory grows by so many pages; it returns the old size in pages
 abbrev pub <b id="GrowsMemory">GrowsMemory</b> : {S : Type 0} → <a href="../../meter/LimiterSpecs/index.html#Rules">Rules</a> S → ℕ → <a href="../../meter/AttemptSpecs/index.html#MeteredValue">MeteredValue</a> <a href="../../store/MemorySpecs/index.html#MemoryValue">MemoryValue</a> S → Result ℕ MemoryError
@@ -3103,7 +3076,7 @@ use Rattle.wasmi_meter.specs.declared.limiter.Kind.TheVariants.{Elements}
 use Rattle.wasmi_meter.specs.Limiter.{<a href="../../meter/LimiterSpecs/index.html#TableFailure">TableFailure</a>, <a href="../../meter/LimiterSpecs/index.html#Rules">Rules</a>}
 use Rattle.wasmi_meter.specs.Meter.{<a href="../../meter/MeterSpecs/index.html#copy_cost">copy_cost</a>}
 use Rattle.wasmi_meter.specs.Attempt.{<a href="../../meter/AttemptSpecs/index.html#MeteredValue">MeteredValue</a>, <a href="../../meter/AttemptSpecs/index.html#Request">Request</a>}
-use Rattle.wasmi_store.specs.Growth.{<a href="../../store/GrowthSpecs/index.html#WithCharge">WithCharge</a>, <a href="../../store/GrowthSpecs/index.html#Makes">Makes</a>, <a href="../../store/GrowthSpecs/index.html#Grows">Grows</a>}
+use Rattle.wasmi_store.specs.Growth.{<a href="../../store/GrowthSpecs/index.html#WithCharge">WithCharge</a>, <a href="../../store/GrowthSpecs/index.html#Makes">Makes</a>, <a href="../../store/GrowthSpecs/index.html#Growth">Growth</a>, <a href="../../store/GrowthSpecs/index.html#Grows">Grows</a>}
 use Rattle.wasmi_store.specs.Write.{<a href="../../store/WriteSpecs/index.html#filled">filled</a>, <a href="../../store/WriteSpecs/index.html#copied">copied</a>, <a href="../../store/WriteSpecs/index.html#MeteredWrite">MeteredWrite</a>, <a href="../../store/WriteSpecs/index.html#WritesCharging">WritesCharging</a>}
 use Rattle.wasmi_store.specs.Segment.{<a href="../../store/SegmentSpecs/index.html#SegmentValue">SegmentValue</a>}
 
@@ -3226,12 +3199,15 @@ abbrev pub <b id="MakesTable">MakesTable</b> : {S : Type 0} → <a href="../../m
     → Type 0
 <a href="../../store/TableSpecs/index.html#MakesTable">MakesTable</a> rules <a href="../../store/TableSpecs/index.html#ty">ty</a> init l result l&#x27; = <a href="../../store/GrowthSpecs/index.html#Makes">Makes</a> rules (<a href="../../store/TableSpecs/index.html#creation_of">creation_of</a> <a href="../../store/TableSpecs/index.html#ty">ty</a> init.ty) (<a href="../../store/TableSpecs/index.html#new_table">new_table</a> <a href="../../store/TableSpecs/index.html#ty">ty</a> init.raw) l result l&#x27;
 
+-- the growth of a table by n elements
+abbrev pub <b id="table_growth">table_growth</b> : ℕ → ℕ → <a href="../../store/TableSpecs/index.html#TableValue">TableValue</a> → <a href="../../store/GrowthSpecs/index.html#Growth">Growth</a> <a href="../../store/TableSpecs/index.html#TableValue">TableValue</a> TableError
+<a href="../../store/TableSpecs/index.html#table_growth">table_growth</a> n reference x = record { amount = n; size = <a href="../../store/TableSpecs/index.html#size_of">size_of</a> x; request = <a href="../../store/TableSpecs/index.html#growth_of">growth_of</a> x n reference }
+
 -- a table grows by n elements, with this charge; it returns the old size
 abbrev pub <b id="GrowsTableRawCharging">GrowsTableRawCharging</b> : {S : Type 0} → <a href="../../meter/LimiterSpecs/index.html#Rules">Rules</a> S → ℕ → ℕ → <a href="../../meter/AttemptSpecs/index.html#MeteredValue">MeteredValue</a> <a href="../../store/TableSpecs/index.html#TableValue">TableValue</a> S → Result ℕ TableError → ℕ
     → <a href="../../meter/AttemptSpecs/index.html#MeteredValue">MeteredValue</a> <a href="../../store/TableSpecs/index.html#TableValue">TableValue</a> S → Type 0
 <a href="../../store/TableSpecs/index.html#GrowsTableRawCharging">GrowsTableRawCharging</a> rules n reference s result charge s&#x27; =
-    <a href="../../store/GrowthSpecs/index.html#Grows">Grows</a> rules (record { amount = n; size = <a href="../../store/TableSpecs/index.html#size_of">size_of</a> s.value; request = <a href="../../store/TableSpecs/index.html#growth_of">growth_of</a> s.value n reference }) s result charge
-    s&#x27;
+    <a href="../../store/GrowthSpecs/index.html#Grows">Grows</a> rules (<a href="../../store/TableSpecs/index.html#table_growth">table_growth</a> n reference s.value) s result charge s&#x27;
 
 -- a growth by a reference that has a type, with this charge: the type is tested first, also for no element, and where
 -- it is another, nothing is touched
@@ -3311,8 +3287,7 @@ abbrev pub <b id="WritesTable">WritesTable</b> : (<a href="../../store/TableSpec
     pub mod TableSpecs {}
     #[doc = r####"A write over a range of items, whatever memory, table or list has them, as a bulk instruction makes it: what stands before it, what the items become, what it costs, and how it ends.
 
-<pre><code>use Rattle.std.specs.Prelude.{◌≡◌, ℕ, Option, Some, None, Result, Ok, Err, List, replicate, MatchBool}
-use Rattle.std.specs.Option.{option_map, option_and_then}
+<pre><code>use Rattle.std.specs.Prelude.{◌≡◌, ℕ, Option, Some, None, Result, Ok, Err, List, replicate, MatchBool, option_map, option_and_then}
 use Rattle.wasmi_types.specs.Access.{<a href="../../types/AccessSpecs/index.html#at">at</a>, <a href="../../types/AccessSpecs/index.html#overwrite">overwrite</a>}
 use Rattle.wasmi_meter.specs.declared.{error.MemoryError.MemoryError, fuel.CustomFuelCosts.CustomFuelCosts}
 use Rattle.wasmi_meter.specs.declared.error.MemoryError.TheVariants.{OutOfBoundsAccess, OutOfFuel}
@@ -3488,7 +3463,7 @@ pub record <b id="IsSpent">IsSpent</b> (rate before after : ℕ) (turns : List <
 </code></pre>
 "####]
     pub mod AccountSpecs {}
-    #[doc = r####"Limiters in runs: deterministic ones, ones that accept each notice, permit each question, or are of one kind; and replies and runs that don't say out of memory, and replies that tell no denial.
+    #[doc = r####"Limiters in runs: deterministic ones, ones that accept each notice, permit each question, or are of one kind; and failures, replies and runs that don't say out of memory, and replies that tell no denial.
 
 <pre><code>use Rattle.std.specs.Prelude.{◌≡◌, List, Ok, Option, Some, None, true, All, map}
 use Rattle.wasmi_meter.specs.Limiter.{<a href="../../meter/LimiterSpecs/index.html#Question">Question</a>, <a href="../../meter/LimiterSpecs/index.html#Answer">Answer</a>, <a href="../../meter/LimiterSpecs/index.html#Failure">Failure</a>, <a href="../../meter/LimiterSpecs/index.html#MemoryFailure">MemoryFailure</a>, <a href="../../meter/LimiterSpecs/index.html#TableFailure">TableFailure</a>, <a href="../../meter/LimiterSpecs/index.html#NoticeAnswer">NoticeAnswer</a>, <a href="../../meter/LimiterSpecs/index.html#Rules">Rules</a>, <a href="../../meter/LimiterSpecs/index.html#optional_rules">optional_rules</a>}
@@ -3525,11 +3500,6 @@ pub record <b id="StaysAccepting">StaysAccepting</b> {S : Type 0} (<a href="../.
       → rules.asked l question answer l&#x27; → IsAccepting l&#x27;
   pub <b id="noticed">noticed</b> : (l : S) (failure : <a href="../../meter/LimiterSpecs/index.html#Failure">Failure</a>) (notice_answer : <a href="../../meter/LimiterSpecs/index.html#NoticeAnswer">NoticeAnswer</a>) (l&#x27; : S) → IsAccepting l
       → rules.noticed l failure notice_answer l&#x27; → (notice_answer ≡ Ok tt) × IsAccepting l&#x27;
-
--- an optional limiter is in one of these states, if there is one
-abbrev pub <b id="IsIn">IsIn</b> : {S : Type 0} → (S → Type 0) → Option S → Type 0
-<a href="../../machine/DeterminismSpecs/index.html#IsIn">IsIn</a> IsAccepting (Some l) = IsAccepting l
-<a href="../../machine/DeterminismSpecs/index.html#IsIn">IsIn</a> IsAccepting None = Unit {0}
 
 -- the failure is another one than that memory was refused
 abbrev pub <b id="IsOtherFailure">IsOtherFailure</b> : <a href="../../meter/LimiterSpecs/index.html#Failure">Failure</a> → Type 0
@@ -3619,13 +3589,9 @@ abbrev pub <b id="reply_of">reply_of</b> : {T E : Type 0} → (T → Reply) → 
 abbrev pub <b id="reply_or_no_such">reply_or_no_such</b> : Option Reply → Reply
 <a href="../../machine/EffectsSpecs/index.html#reply_or_no_such">reply_or_no_such</a> reply = unwrap_or reply NoSuch
 
--- a fact of an effect on the live value of an index; where the index names none, the other fact
-abbrev pub <b id="OnLive">OnLive</b> : {X : Type 0} → Option X → Type 0 → (X → Type 0) → Type 0
-<a href="../../machine/EffectsSpecs/index.html#OnLive">OnLive</a> o Missing Fact = MatchOption o Missing Fact
-
 -- the value that an index names has become another, which is put back; without one it is `NoSuch`, and nothing changes
 abbrev pub <b id="ChangesFound">ChangesFound</b> : {X A : Type 0} → Option X → (X → A) → A → Reply → A → (X → X → Type 0) → Type 0
-<a href="../../machine/EffectsSpecs/index.html#ChangesFound">ChangesFound</a> found put <a href="../../machine/EffectsSpecs/index.html#part">part</a> reply part&#x27; Change = <a href="../../machine/EffectsSpecs/index.html#OnLive">OnLive</a> found ((reply ≡ NoSuch) × (part&#x27; ≡ <a href="../../machine/EffectsSpecs/index.html#part">part</a>))
+<a href="../../machine/EffectsSpecs/index.html#ChangesFound">ChangesFound</a> found put <a href="../../machine/EffectsSpecs/index.html#part">part</a> reply part&#x27; Change = MatchOption found ((reply ≡ NoSuch) × (part&#x27; ≡ <a href="../../machine/EffectsSpecs/index.html#part">part</a>))
     (λ x. (x&#x27; : _) × Change x x&#x27; × (part&#x27; ≡ put x&#x27;))
 
 -- the live value in a slot has become another
@@ -3666,7 +3632,7 @@ abbrev pub <b id="Creates">Creates</b> : {X E S : Type 0} → (E → Reply) → 
 -- the live value of an index is dropped, and its slot keeps how many it had; where the index names none it is `NoSuch`,
 -- and nothing has changed
 abbrev pub <b id="DropsAt">DropsAt</b> : {X : Type 0} → (X → ℕ) → ℕ → List (Slot X) → Reply → List (Slot X) → Type 0
-<a href="../../machine/EffectsSpecs/index.html#DropsAt">DropsAt</a> count k slots reply slots&#x27; = <a href="../../machine/EffectsSpecs/index.html#OnLive">OnLive</a> (<a href="../../machine/StateSpecs/index.html#live_at">live_at</a> slots k) ((reply ≡ NoSuch) × (slots&#x27; ≡ slots))
+<a href="../../machine/EffectsSpecs/index.html#DropsAt">DropsAt</a> count k slots reply slots&#x27; = MatchOption (<a href="../../machine/StateSpecs/index.html#live_at">live_at</a> slots k) ((reply ≡ NoSuch) × (slots&#x27; ≡ slots))
     (λ x. (reply ≡ Done) × (slots&#x27; ≡ slice_set slots k (Gone (count x))))
 
 -- an index names nothing: there is no charge, and nothing has changed
@@ -3676,7 +3642,7 @@ abbrev pub <b id="IsNoSuch">IsNoSuch</b> : {A S : Type 0} → <a href="../../met
 -- a call with a charge on the live value of an index, with the reply to each result
 abbrev pub <b id="ActsAt">ActsAt</b> : {X R S : Type 0} → ℕ → (R → Reply) → (<a href="../../meter/AttemptSpecs/index.html#MeteredValue">MeteredValue</a> X S → R → ℕ → <a href="../../meter/AttemptSpecs/index.html#MeteredValue">MeteredValue</a> X S → Type 0)
     → <a href="../../meter/AttemptSpecs/index.html#MeteredValue">MeteredValue</a> (List (Slot X)) S → Reply → ℕ → <a href="../../meter/AttemptSpecs/index.html#MeteredValue">MeteredValue</a> (List (Slot X)) S → Type 0
-<a href="../../machine/EffectsSpecs/index.html#ActsAt">ActsAt</a> k reply_to Acts s reply charge s&#x27; = <a href="../../machine/EffectsSpecs/index.html#OnLive">OnLive</a> (<a href="../../machine/StateSpecs/index.html#live_at">live_at</a> s.value k) (<a href="../../machine/EffectsSpecs/index.html#IsNoSuch">IsNoSuch</a> s reply charge s&#x27;)
+<a href="../../machine/EffectsSpecs/index.html#ActsAt">ActsAt</a> k reply_to Acts s reply charge s&#x27; = MatchOption (<a href="../../machine/StateSpecs/index.html#live_at">live_at</a> s.value k) (<a href="../../machine/EffectsSpecs/index.html#IsNoSuch">IsNoSuch</a> s reply charge s&#x27;)
     (λ x. (result : _) × (x&#x27; : _) × Acts (<a href="../../meter/AttemptSpecs/index.html#with_value">with_value</a> s x) result charge (<a href="../../meter/AttemptSpecs/index.html#with_value">with_value</a> s&#x27; x&#x27;)
     × (reply ≡ reply_to result) × (s&#x27;.value ≡ slice_set s.value k (Live x&#x27;)))
 
@@ -3694,7 +3660,7 @@ abbrev pub <b id="WritesAt">WritesAt</b> : {X E : Type 0} → (E → Reply) → 
 abbrev pub <b id="WritesFrom">WritesFrom</b> : {X Y E : Type 0} → (E → Reply) → Option Y → ℕ → (Y → X → <a href="../../store/WriteSpecs/index.html#MeteredWrite">MeteredWrite</a> X E) → <a href="../../machine/EffectsSpecs/index.html#MeteredSlots">MeteredSlots</a> X
     → Reply → ℕ → <a href="../../machine/EffectsSpecs/index.html#MeteredSlots">MeteredSlots</a> X → Type 0
 <a href="../../machine/EffectsSpecs/index.html#WritesFrom">WritesFrom</a> refusal source k write s reply charge s&#x27; =
-    <a href="../../machine/EffectsSpecs/index.html#OnLive">OnLive</a> source (<a href="../../machine/EffectsSpecs/index.html#IsNoSuch">IsNoSuch</a> s reply charge s&#x27;) (λ y. <a href="../../machine/EffectsSpecs/index.html#WritesAt">WritesAt</a> refusal k (write y) s reply charge s&#x27;)
+    MatchOption source (<a href="../../machine/EffectsSpecs/index.html#IsNoSuch">IsNoSuch</a> s reply charge s&#x27;) (λ y. <a href="../../machine/EffectsSpecs/index.html#WritesAt">WritesAt</a> refusal k (write y) s reply charge s&#x27;)
 
 -- a range of the value of an index is written over by such a write, if there is one
 abbrev pub <b id="WritesRangeAt">WritesRangeAt</b> : {X E : Type 0} → (E → Reply) → ℕ → Option (X → <a href="../../store/WriteSpecs/index.html#MeteredWrite">MeteredWrite</a> X E) → <a href="../../machine/EffectsSpecs/index.html#MeteredSlots">MeteredSlots</a> X → Reply
@@ -3764,8 +3730,7 @@ module _ {S : Type 0} (w : <a href="../../machine/StateSpecs/index.html#World">W
     pub mod EffectsSpecs {}
     #[doc = r####"Exchanges: what passes between a machine and its limiter in one turn, the question of each call, the replies to it, the size that grows by it, and what growths and writes over a range are charged.
 
-<pre><code>use Rattle.std.specs.Prelude.{◌≡◌, ◌≢◌, ◌≤◌, ◌-◌, ◌⊎◌, ◌++◌, ℕ, Option, Some, None, Ok, true, nat_eq, is_none, if◌then◌else◌, List, [], ◌∷◌, slice_get, slice_set}
-use Rattle.std.specs.Option.{option_map, option_and_then}
+<pre><code>use Rattle.std.specs.Prelude.{◌≡◌, ◌≢◌, ◌≤◌, ◌-◌, ◌⊎◌, ◌++◌, ℕ, Option, Some, None, Ok, true, nat_eq, is_none, if◌then◌else◌, List, [], ◌∷◌, slice_get, slice_set, option_map, option_and_then}
 use Rattle.wasmi_meter.specs.declared.{limiter.Kind.Kind, fuel.CustomFuelCosts.CustomFuelCosts}
 use Rattle.wasmi_meter.specs.declared.limiter.Kind.TheVariants.{Bytes, Elements}
 use Rattle.wasmi_meter.specs.declared.error.MemoryError.TheVariants as memory_error
@@ -3848,8 +3813,7 @@ abbrev pub <b id="RepliesTo">RepliesTo</b> : <a href="../../machine/ExchangeSpec
 
 -- where a call makes something grow: nowhere, at a new index, or at one that is there
 pub data <b id="Place">Place</b> : Type 0 where
-  <b id="Nowhere">Nowhere</b> : <a href="../../machine/ExchangeSpecs/index.html#Place">Place</a>
-  <b id="New">New</b> : <a href="../../machine/ExchangeSpecs/index.html#Place">Place</a>
+  <b id="Nowhere">Nowhere</b> <b id="New">New</b> : <a href="../../machine/ExchangeSpecs/index.html#Place">Place</a>
   <b id="At">At</b> : ℕ → <a href="../../machine/ExchangeSpecs/index.html#Place">Place</a>
 
 -- What tools/generate writes begins.
@@ -3950,35 +3914,29 @@ pub record <b id="Exchanges">Exchanges</b> {S : Type 0} (rules : <a href="../../
     pub mod ExchangeSpecs {}
     #[doc = r####"What holds of all turns and runs of a machine, and of its memories in lent regions: the statements of its laws, and what a refused turn keeps.
 
-<pre><code><a href="../../machine/LawsSpecs/index.html#use">use</a> Rattle.std.specs.Prelude.{◌≡◌, ◌⊎◌, ◌&lt;◌, ◌≤◌, ◌+◌, ◌*◌, ◌++◌, ℕ, true, Option, Some, Result, Ok, List, length, map, All}
-<a href="../../machine/LawsSpecs/index.html#use">use</a> Rattle.wasmi_meter.specs.declared.{quota.Holdings.Holdings, error.MemoryError.MemoryError, quota.Quota.Quota}
-<a href="../../machine/LawsSpecs/index.html#use">use</a> Rattle.wasmi_meter.specs.Meter.{<a href="../../meter/MeterSpecs/index.html#PaysCharge">PaysCharge</a>}
-<a href="../../machine/LawsSpecs/index.html#use">use</a> Rattle.wasmi_meter.specs.Limiter.{<a href="../../meter/LimiterSpecs/index.html#Question">Question</a>, <a href="../../meter/LimiterSpecs/index.html#Rules">Rules</a>, <a href="../../meter/LimiterSpecs/index.html#Failure">Failure</a>, <a href="../../meter/LimiterSpecs/index.html#NoticeAnswer">NoticeAnswer</a>, <a href="../../meter/LimiterSpecs/index.html#optional_rules">optional_rules</a>}
-<a href="../../machine/LawsSpecs/index.html#use">use</a> Rattle.wasmi_meter.specs.Attempt.{<a href="../../meter/AttemptSpecs/index.html#MeteredValue">MeteredValue</a>, <a href="../../meter/AttemptSpecs/index.html#optional_due">optional_due</a>, <a href="../../meter/AttemptSpecs/index.html#covers">covers</a>}
-<a href="../../machine/LawsSpecs/index.html#use">use</a> Rattle.wasmi_meter.specs.Capped.{<a href="../../meter/CappedSpecs/index.html#SameCaps">SameCaps</a>, <a href="../../meter/CappedSpecs/index.html#IsWithinCaps">IsWithinCaps</a>, <a href="../../meter/CappedSpecs/index.html#quota_rules">quota_rules</a>}
-<a href="../../machine/LawsSpecs/index.html#use">use</a> Rattle.wasmi_store.specs.Buffer.{<a href="../../store/BufferSpecs/index.html#Lent">Lent</a>, <a href="../../store/BufferSpecs/index.html#fits_room">fits_room</a>}
-<a href="../../machine/LawsSpecs/index.html#use">use</a> Rattle.wasmi_store.specs.Growth.{<a href="../../store/GrowthSpecs/index.html#IsDenied">IsDenied</a>}
-<a href="../../machine/LawsSpecs/index.html#use">use</a> Rattle.wasmi_store.specs.Memory.{<a href="../../store/MemorySpecs/index.html#MemoryTypeValue">MemoryTypeValue</a>, <a href="../../store/MemorySpecs/index.html#page_bytes">page_bytes</a>, <a href="../../store/MemorySpecs/index.html#minimum_bytes">minimum_bytes</a>, <a href="../../store/MemorySpecs/index.html#in_bounds">in_bounds</a>, <a href="../../store/MemorySpecs/index.html#MemoryValue">MemoryValue</a>, <a href="../../store/MemorySpecs/index.html#pages_of">pages_of</a>, <a href="../../store/MemorySpecs/index.html#growth_of">growth_of</a>, <a href="../../store/MemorySpecs/index.html#GrowsMemory">GrowsMemory</a>}
-<a href="../../machine/LawsSpecs/index.html#use">use</a> Rattle.wasmi_machine.specs.declared.{calls.Call.Call, calls.Reply.Reply}
-<a href="../../machine/LawsSpecs/index.html#use">use</a> Rattle.wasmi_machine.specs.declared.calls.Call.TheVariants.{NewMemory, NewLentMemory}
-<a href="../../machine/LawsSpecs/index.html#use">use</a> Rattle.wasmi_machine.specs.State.{<a href="../../machine/StateSpecs/index.html#State">State</a>, <a href="../../machine/StateSpecs/index.html#World">World</a>, <a href="../../machine/StateSpecs/index.html#Turn">Turn</a>, <a href="../../machine/StateSpecs/index.html#world">world</a>, <a href="../../machine/StateSpecs/index.html#IsValid">IsValid</a>, <a href="../../machine/StateSpecs/index.html#IsValidCall">IsValidCall</a>, <a href="../../machine/StateSpecs/index.html#HoldsTotals">HoldsTotals</a>}
-pub <b id="use">use</b> Rattle.wasmi_machine.specs.State.{<a href="../../machine/StateSpecs/index.html#IsRefusal">IsRefusal</a>}
-<a href="../../machine/LawsSpecs/index.html#use">use</a> Rattle.wasmi_machine.specs.Steps.{<a href="../../machine/StepsSpecs/index.html#Step">Step</a>, <a href="../../machine/StepsSpecs/index.html#Sequence">Sequence</a>, <a href="../../machine/StepsSpecs/index.html#Run">Run</a>, <a href="../../machine/StepsSpecs/index.html#IsRunOf">IsRunOf</a>}
-<a href="../../machine/LawsSpecs/index.html#use">use</a> Rattle.wasmi_machine.specs.Account.{<a href="../../machine/AccountSpecs/index.html#opened">opened</a>, <a href="../../machine/AccountSpecs/index.html#account_after">account_after</a>, <a href="../../machine/AccountSpecs/index.html#Balances">Balances</a>, <a href="../../machine/AccountSpecs/index.html#SetsNoFuel">SetsNoFuel</a>, <a href="../../machine/AccountSpecs/index.html#IsBounded">IsBounded</a>, <a href="../../machine/AccountSpecs/index.html#IsSpent">IsSpent</a>}
-<a href="../../machine/LawsSpecs/index.html#use">use</a> Rattle.wasmi_machine.specs.Exchange.{<a href="../../machine/ExchangeSpecs/index.html#Notice">Notice</a>, <a href="../../machine/ExchangeSpecs/index.html#Passes">Passes</a>, <a href="../../machine/ExchangeSpecs/index.html#At">At</a>, <a href="../../machine/ExchangeSpecs/index.html#place_of">place_of</a>, <a href="../../machine/ExchangeSpecs/index.html#question_of">question_of</a>, <a href="../../machine/ExchangeSpecs/index.html#failed_reply">failed_reply</a>, <a href="../../machine/ExchangeSpecs/index.html#growth_due">growth_due</a>, <a href="../../machine/ExchangeSpecs/index.html#Exchanges">Exchanges</a>}
-<a href="../../machine/LawsSpecs/index.html#use">use</a> Rattle.wasmi_machine.specs.MemoryEffects.{<a href="../../machine/MemoryEffectsSpecs/index.html#spare_after">spare_after</a>}
-<a href="../../machine/LawsSpecs/index.html#use">use</a> Rattle.wasmi_machine.specs.Determinism.{<a href="../../machine/DeterminismSpecs/index.html#IsDeterministic">IsDeterministic</a>, <a href="../../machine/DeterminismSpecs/index.html#AcceptsNotices">AcceptsNotices</a>, <a href="../../machine/DeterminismSpecs/index.html#IsOtherFailure">IsOtherFailure</a>, <a href="../../machine/DeterminismSpecs/index.html#never_out_of_memory">never_out_of_memory</a>, <a href="../../machine/DeterminismSpecs/index.html#IsNotOutOfMemory">IsNotOutOfMemory</a>, <a href="../../machine/DeterminismSpecs/index.html#AreNotOutOfMemory">AreNotOutOfMemory</a>, <a href="../../machine/DeterminismSpecs/index.html#permitting">permitting</a>, <a href="../../machine/DeterminismSpecs/index.html#TellsNoDenial">TellsNoDenial</a>}
-<a href="../../machine/LawsSpecs/index.html#use">use</a> Rattle.wasmi_machine.specs.LentMemory.{<a href="../../machine/LentMemorySpecs/index.html#owned_world">owned_world</a>, <a href="../../machine/LentMemorySpecs/index.html#unlent_world">unlent_world</a>, <a href="../../machine/LentMemorySpecs/index.html#RunInRegions">RunInRegions</a>}
+<pre><code>use Rattle.std.specs.Prelude.{◌≡◌, ◌⊎◌, ◌&lt;◌, ◌≤◌, ◌+◌, ◌*◌, ◌++◌, ℕ, true, Option, Some, Result, Ok, List, length, map, All}
+use Rattle.wasmi_meter.specs.declared.{quota.Holdings.Holdings, error.MemoryError.MemoryError, quota.Quota.Quota}
+use Rattle.wasmi_meter.specs.Meter.{<a href="../../meter/MeterSpecs/index.html#PaysCharge">PaysCharge</a>}
+use Rattle.wasmi_meter.specs.Limiter.{<a href="../../meter/LimiterSpecs/index.html#Question">Question</a>, <a href="../../meter/LimiterSpecs/index.html#Rules">Rules</a>, <a href="../../meter/LimiterSpecs/index.html#Failure">Failure</a>, <a href="../../meter/LimiterSpecs/index.html#NoticeAnswer">NoticeAnswer</a>, <a href="../../meter/LimiterSpecs/index.html#optional_rules">optional_rules</a>}
+use Rattle.wasmi_meter.specs.Attempt.{<a href="../../meter/AttemptSpecs/index.html#MeteredValue">MeteredValue</a>, <a href="../../meter/AttemptSpecs/index.html#optional_due">optional_due</a>, <a href="../../meter/AttemptSpecs/index.html#covers">covers</a>}
+use Rattle.wasmi_meter.specs.Capped.{<a href="../../meter/CappedSpecs/index.html#SameCaps">SameCaps</a>, <a href="../../meter/CappedSpecs/index.html#IsWithinCaps">IsWithinCaps</a>, <a href="../../meter/CappedSpecs/index.html#quota_rules">quota_rules</a>}
+use Rattle.wasmi_store.specs.Buffer.{<a href="../../store/BufferSpecs/index.html#Lent">Lent</a>, <a href="../../store/BufferSpecs/index.html#fits_room">fits_room</a>}
+use Rattle.wasmi_store.specs.Growth.{<a href="../../store/GrowthSpecs/index.html#IsDenied">IsDenied</a>}
+use Rattle.wasmi_store.specs.Memory.{<a href="../../store/MemorySpecs/index.html#MemoryTypeValue">MemoryTypeValue</a>, <a href="../../store/MemorySpecs/index.html#page_bytes">page_bytes</a>, <a href="../../store/MemorySpecs/index.html#minimum_bytes">minimum_bytes</a>, <a href="../../store/MemorySpecs/index.html#in_bounds">in_bounds</a>, <a href="../../store/MemorySpecs/index.html#MemoryValue">MemoryValue</a>, <a href="../../store/MemorySpecs/index.html#pages_of">pages_of</a>, <a href="../../store/MemorySpecs/index.html#growth_of">growth_of</a>, <a href="../../store/MemorySpecs/index.html#GrowsMemory">GrowsMemory</a>}
+use Rattle.wasmi_machine.specs.declared.{calls.Call.Call, calls.Reply.Reply}
+use Rattle.wasmi_machine.specs.declared.calls.Call.TheVariants.{NewMemory, NewLentMemory}
+use Rattle.wasmi_machine.specs.State.{<a href="../../machine/StateSpecs/index.html#State">State</a>, <a href="../../machine/StateSpecs/index.html#World">World</a>, <a href="../../machine/StateSpecs/index.html#Turn">Turn</a>, <a href="../../machine/StateSpecs/index.html#world">world</a>, <a href="../../machine/StateSpecs/index.html#IsValid">IsValid</a>, <a href="../../machine/StateSpecs/index.html#IsValidCall">IsValidCall</a>, <a href="../../machine/StateSpecs/index.html#HoldsTotals">HoldsTotals</a>}
+pub use Rattle.wasmi_machine.specs.State.{<a href="../../machine/StateSpecs/index.html#IsRefusal">IsRefusal</a>}
+use Rattle.wasmi_machine.specs.Steps.{<a href="../../machine/StepsSpecs/index.html#Step">Step</a>, <a href="../../machine/StepsSpecs/index.html#Sequence">Sequence</a>, <a href="../../machine/StepsSpecs/index.html#Run">Run</a>, <a href="../../machine/StepsSpecs/index.html#IsRunOf">IsRunOf</a>}
+use Rattle.wasmi_machine.specs.Account.{<a href="../../machine/AccountSpecs/index.html#opened">opened</a>, <a href="../../machine/AccountSpecs/index.html#account_after">account_after</a>, <a href="../../machine/AccountSpecs/index.html#Balances">Balances</a>, <a href="../../machine/AccountSpecs/index.html#SetsNoFuel">SetsNoFuel</a>, <a href="../../machine/AccountSpecs/index.html#IsBounded">IsBounded</a>, <a href="../../machine/AccountSpecs/index.html#IsSpent">IsSpent</a>}
+use Rattle.wasmi_machine.specs.Exchange.{<a href="../../machine/ExchangeSpecs/index.html#Notice">Notice</a>, <a href="../../machine/ExchangeSpecs/index.html#Passes">Passes</a>, <a href="../../machine/ExchangeSpecs/index.html#At">At</a>, <a href="../../machine/ExchangeSpecs/index.html#place_of">place_of</a>, <a href="../../machine/ExchangeSpecs/index.html#question_of">question_of</a>, <a href="../../machine/ExchangeSpecs/index.html#failed_reply">failed_reply</a>, <a href="../../machine/ExchangeSpecs/index.html#growth_due">growth_due</a>, <a href="../../machine/ExchangeSpecs/index.html#Exchanges">Exchanges</a>}
+use Rattle.wasmi_machine.specs.MemoryEffects.{<a href="../../machine/MemoryEffectsSpecs/index.html#spare_after">spare_after</a>}
+use Rattle.wasmi_machine.specs.Determinism.{<a href="../../machine/DeterminismSpecs/index.html#IsDeterministic">IsDeterministic</a>, <a href="../../machine/DeterminismSpecs/index.html#AcceptsNotices">AcceptsNotices</a>, <a href="../../machine/DeterminismSpecs/index.html#IsOtherFailure">IsOtherFailure</a>, <a href="../../machine/DeterminismSpecs/index.html#never_out_of_memory">never_out_of_memory</a>, <a href="../../machine/DeterminismSpecs/index.html#IsNotOutOfMemory">IsNotOutOfMemory</a>, <a href="../../machine/DeterminismSpecs/index.html#AreNotOutOfMemory">AreNotOutOfMemory</a>, <a href="../../machine/DeterminismSpecs/index.html#permitting">permitting</a>, <a href="../../machine/DeterminismSpecs/index.html#TellsNoDenial">TellsNoDenial</a>}
+use Rattle.wasmi_machine.specs.LentMemory.{<a href="../../machine/LentMemorySpecs/index.html#owned_world">owned_world</a>, <a href="../../machine/LentMemorySpecs/index.html#unlent_world">unlent_world</a>, <a href="../../machine/LentMemorySpecs/index.html#RunInRegions">RunInRegions</a>}
 
 -- all but the meter and the spare region is the same
-pub record <b id="SameContents">SameContents</b> (s s&#x27; : <a href="../../machine/StateSpecs/index.html#State">State</a>) : Type 0 where
-  pub <b id="memories">memories</b> : s&#x27;.<a href="../../machine/LawsSpecs/index.html#memories">memories</a> ≡ s.memories
-  pub <b id="tables">tables</b> : s&#x27;.<a href="../../machine/LawsSpecs/index.html#tables">tables</a> ≡ s.tables
-  pub <b id="segments">segments</b> : s&#x27;.<a href="../../machine/LawsSpecs/index.html#segments">segments</a> ≡ s.segments
-  pub <b id="data_segments">data_segments</b> : s&#x27;.<a href="../../machine/LawsSpecs/index.html#data_segments">data_segments</a> ≡ s.data_segments
-  pub <b id="globals">globals</b> : s&#x27;.<a href="../../machine/LawsSpecs/index.html#globals">globals</a> ≡ s.globals
-  pub <b id="registers">registers</b> : s&#x27;.<a href="../../machine/LawsSpecs/index.html#registers">registers</a> ≡ s.registers
-  pub <b id="reserved">reserved</b> : s&#x27;.<a href="../../machine/LawsSpecs/index.html#reserved">reserved</a> ≡ s.reserved
+abbrev pub <b id="SameContents">SameContents</b> : <a href="../../machine/StateSpecs/index.html#State">State</a> → <a href="../../machine/StateSpecs/index.html#State">State</a> → Type 0
+<a href="../../machine/LawsSpecs/index.html#SameContents">SameContents</a> s s&#x27; = s&#x27; ≡ record s { <a href="../../machine/LawsSpecs/index.html#meter">meter</a> = s&#x27;.<a href="../../machine/LawsSpecs/index.html#meter">meter</a>; <a href="../../machine/LawsSpecs/index.html#spare">spare</a> = s&#x27;.<a href="../../machine/LawsSpecs/index.html#spare">spare</a> }
 
 -- the spare region stays, unless a memory was to be made in it: then it is used up if there was room for a slot
 abbrev pub <b id="KeepsSpare">KeepsSpare</b> : Call → Reply → <a href="../../machine/StateSpecs/index.html#State">State</a> → <a href="../../machine/StateSpecs/index.html#State">State</a> → Type 0
@@ -4140,7 +4098,7 @@ abbrev pub <b id="QuotasStayWithin">QuotasStayWithin</b> : Type 0
     pub mod LawsSpecs {}
     #[doc = r####"Machines with memories in lent regions, beside the same machines with memories of their own; growths, calls and runs that fit these regions.
 
-<pre><code>use Rattle.std.specs.Prelude.{◌≡◌, ◌⊎◌, ◌+◌, ◌*◌, ℕ, true, false, List, map, None}
+<pre><code>use Rattle.std.specs.Prelude.{◌≡◌, ◌⊎◌, ◌+◌, ◌*◌, ℕ, true, false, List, map, None, MatchOption}
 use Rattle.wasmi_meter.specs.Limiter.{<a href="../../meter/LimiterSpecs/index.html#Rules">Rules</a>}
 use Rattle.wasmi_store.specs.Buffer.{<a href="../../store/BufferSpecs/index.html#Owned">Owned</a>, <a href="../../store/BufferSpecs/index.html#fits_room">fits_room</a>}
 use Rattle.wasmi_store.specs.Memory.{<a href="../../store/MemorySpecs/index.html#page_bytes">page_bytes</a>, <a href="../../store/MemorySpecs/index.html#in_bounds">in_bounds</a>, <a href="../../store/MemorySpecs/index.html#MemoryValue">MemoryValue</a>, <a href="../../store/MemorySpecs/index.html#pages_of">pages_of</a>}
@@ -4148,7 +4106,6 @@ use Rattle.wasmi_machine.specs.declared.{calls.Call.Call, slots.Slot.Slot}
 use Rattle.wasmi_machine.specs.declared.calls.Call.TheVariants.{NewLentMemory, GrowMemory}
 use Rattle.wasmi_machine.specs.declared.slots.Slot.TheVariants.{Live, Gone}
 use Rattle.wasmi_machine.specs.State.{<a href="../../machine/StateSpecs/index.html#State">State</a>, <a href="../../machine/StateSpecs/index.html#live_at">live_at</a>, <a href="../../machine/StateSpecs/index.html#World">World</a>, <a href="../../machine/StateSpecs/index.html#Turn">Turn</a>}
-use Rattle.wasmi_machine.specs.Effects.{<a href="../../machine/EffectsSpecs/index.html#OnLive">OnLive</a>}
 use Rattle.wasmi_machine.specs.Steps.{<a href="../../machine/StepsSpecs/index.html#Step">Step</a>, <a href="../../machine/StepsSpecs/index.html#Sequence">Sequence</a>}
 
 -- a memory that grows into memory of its own, instead of a lent region
@@ -4180,7 +4137,7 @@ abbrev pub <b id="FitsRoom">FitsRoom</b> : ℕ → <a href="../../store/MemorySp
 -- a call that makes no memory in the spare region, and grows no memory past the region that it lies in
 abbrev pub <b id="FitsRegions">FitsRegions</b> : <a href="../../machine/StateSpecs/index.html#State">State</a> → Call → Type 0
 <a href="../../machine/LentMemorySpecs/index.html#FitsRegions">FitsRegions</a> s (NewLentMemory ty) = ⊥
-<a href="../../machine/LentMemorySpecs/index.html#FitsRegions">FitsRegions</a> s (GrowMemory k pages) = <a href="../../machine/EffectsSpecs/index.html#OnLive">OnLive</a> (<a href="../../machine/StateSpecs/index.html#live_at">live_at</a> s.memories k) (Unit {0}) (<a href="../../machine/LentMemorySpecs/index.html#FitsRoom">FitsRoom</a> pages)
+<a href="../../machine/LentMemorySpecs/index.html#FitsRegions">FitsRegions</a> s (GrowMemory k pages) = MatchOption (<a href="../../machine/StateSpecs/index.html#live_at">live_at</a> s.memories k) (Unit {0}) (<a href="../../machine/LentMemorySpecs/index.html#FitsRoom">FitsRoom</a> pages)
 <a href="../../machine/LentMemorySpecs/index.html#FitsRegions">FitsRegions</a> s call = Unit {0}
 
 -- turns by such calls one after another, from one world to another
@@ -4208,7 +4165,7 @@ use Rattle.wasmi_ops.specs.declared.load_store.LoadOp.{LoadOp}
 use Rattle.wasmi_ops.specs.LoadStoreOps.{<a href="../../ops/LoadStoreOpsSpecs/index.html#loaded_raw">loaded_raw</a>, <a href="../../ops/LoadStoreOpsSpecs/index.html#stored_bytes">stored_bytes</a>}
 use Rattle.wasmi_ops.specs.LaneOps.{<a href="../../ops/LaneOpsSpecs/index.html#stored_lane">stored_lane</a>}
 use Rattle.wasmi_machine.specs.State.{<a href="../../machine/StateSpecs/index.html#MemoryPart">MemoryPart</a>, <a href="../../machine/StateSpecs/index.html#live_at">live_at</a>}
-use Rattle.wasmi_machine.specs.Effects.{<a href="../../machine/EffectsSpecs/index.html#reply_of">reply_of</a>, <a href="../../machine/EffectsSpecs/index.html#OnLive">OnLive</a>, <a href="../../machine/EffectsSpecs/index.html#Creates">Creates</a>, <a href="../../machine/EffectsSpecs/index.html#ChangesAt">ChangesAt</a>, <a href="../../machine/EffectsSpecs/index.html#MeteredSlots">MeteredSlots</a>, <a href="../../machine/EffectsSpecs/index.html#WritesAt">WritesAt</a>, <a href="../../machine/EffectsSpecs/index.html#WritesFrom">WritesFrom</a>}
+use Rattle.wasmi_machine.specs.Effects.{<a href="../../machine/EffectsSpecs/index.html#reply_of">reply_of</a>, <a href="../../machine/EffectsSpecs/index.html#Creates">Creates</a>, <a href="../../machine/EffectsSpecs/index.html#ChangesAt">ChangesAt</a>}
 use Rattle.wasmi_machine.specs.declared.memories.Stored.TheVariants as stored
 
 -- how many bytes a growth of a memory by so many pages has appended, by its reply
@@ -4236,7 +4193,7 @@ abbrev pub <b id="ReadsBytes">ReadsBytes</b> : Option (List ℕ) → Reply → T
 -- the reply to a read of so many bytes from an offset on, by the memory of an index
 abbrev pub <b id="ReadsMemoryAt">ReadsMemoryAt</b> : ℕ → ℕ → ℕ → List (Slot <a href="../../store/MemorySpecs/index.html#MemoryValue">MemoryValue</a>) → Reply → Type 0
 <a href="../../machine/MemoryEffectsSpecs/index.html#ReadsMemoryAt">ReadsMemoryAt</a> k offset len slots reply =
-    <a href="../../machine/EffectsSpecs/index.html#OnLive">OnLive</a> (<a href="../../machine/StateSpecs/index.html#live_at">live_at</a> slots k) (reply ≡ NoSuch) (λ x. <a href="../../machine/MemoryEffectsSpecs/index.html#ReadsBytes">ReadsBytes</a> (<a href="../../types/AccessSpecs/index.html#at">at</a> x.bytes offset len) reply)
+    MatchOption (<a href="../../machine/StateSpecs/index.html#live_at">live_at</a> slots k) (reply ≡ NoSuch) (λ x. <a href="../../machine/MemoryEffectsSpecs/index.html#ReadsBytes">ReadsBytes</a> (<a href="../../types/AccessSpecs/index.html#at">at</a> x.bytes offset len) reply)
 
 -- the memory of an index is written over with bytes from an offset on, or the write is refused
 abbrev pub <b id="WritesMemoryAt">WritesMemoryAt</b> : ℕ → ℕ → List ℕ → List (Slot <a href="../../store/MemorySpecs/index.html#MemoryValue">MemoryValue</a>) → Reply → List (Slot <a href="../../store/MemorySpecs/index.html#MemoryValue">MemoryValue</a>) → Type 0
@@ -4267,17 +4224,6 @@ abbrev pub <b id="byte_write_of">byte_write_of</b> : <a href="../../machine/Memo
 -- the bytes of a memory, if it is there
 abbrev pub <b id="bytes_in">bytes_in</b> : Option <a href="../../store/MemorySpecs/index.html#MemoryValue">MemoryValue</a> → Option (List ℕ)
 <a href="../../machine/MemoryEffectsSpecs/index.html#bytes_in">bytes_in</a> memory = option_map (λ x. x.bytes) memory
-
--- a range of the memory of an index is written over, with its charge
-abbrev pub <b id="WritesRangeOfMemoryAt">WritesRangeOfMemoryAt</b> : ℕ → (<a href="../../store/MemorySpecs/index.html#MemoryValue">MemoryValue</a> → <a href="../../store/MemorySpecs/index.html#MemoryWrite">MemoryWrite</a>) → <a href="../../machine/EffectsSpecs/index.html#MeteredSlots">MeteredSlots</a> <a href="../../store/MemorySpecs/index.html#MemoryValue">MemoryValue</a> → Reply → ℕ
-    → <a href="../../machine/EffectsSpecs/index.html#MeteredSlots">MeteredSlots</a> <a href="../../store/MemorySpecs/index.html#MemoryValue">MemoryValue</a> → Type 0
-<a href="../../machine/MemoryEffectsSpecs/index.html#WritesRangeOfMemoryAt">WritesRangeOfMemoryAt</a> = <a href="../../machine/EffectsSpecs/index.html#WritesAt">WritesAt</a> Memory
-
--- a range of the memory of an index is written over with what a source has, with its charge; without a source the reply
--- is `NoSuch`, and nothing has changed
-abbrev pub <b id="WritesMemoryFrom">WritesMemoryFrom</b> : {Y : Type 0} → Option Y → ℕ → (Y → <a href="../../store/MemorySpecs/index.html#MemoryValue">MemoryValue</a> → <a href="../../store/MemorySpecs/index.html#MemoryWrite">MemoryWrite</a>)
-    → <a href="../../machine/EffectsSpecs/index.html#MeteredSlots">MeteredSlots</a> <a href="../../store/MemorySpecs/index.html#MemoryValue">MemoryValue</a> → Reply → ℕ → <a href="../../machine/EffectsSpecs/index.html#MeteredSlots">MeteredSlots</a> <a href="../../store/MemorySpecs/index.html#MemoryValue">MemoryValue</a> → Type 0
-<a href="../../machine/MemoryEffectsSpecs/index.html#WritesMemoryFrom">WritesMemoryFrom</a> = <a href="../../machine/EffectsSpecs/index.html#WritesFrom">WritesFrom</a> Memory
 
 -- what a call copies over a part of a memory is of another one
 abbrev pub <b id="memory_copy_of">memory_copy_of</b> : ℕ → ℕ → ℕ → <a href="../../store/MemorySpecs/index.html#MemoryValue">MemoryValue</a> → <a href="../../store/MemorySpecs/index.html#MemoryValue">MemoryValue</a> → <a href="../../store/MemorySpecs/index.html#MemoryWrite">MemoryWrite</a>
@@ -4398,8 +4344,7 @@ abbrev pub <b id="with_item">with_item</b> : {X : Type 0} → <a href="../../mac
     pub mod ReservedListSpecs {}
     #[doc = r####"The state of a machine and its slots (core specification, the store), a world of it with a limiter, a turn with its outcome, refusals, the sizes and totals of a state, and when states and calls are valid.
 
-<pre><code>use Rattle.std.specs.Prelude.{ℕ, ◌+◌, List, [], Option, Some, None, slice_get, replicate, ◌≡◌, length, map, max, sum, ◌≤◌, All}
-use Rattle.std.specs.Option.{option_and_then}
+<pre><code>use Rattle.std.specs.Prelude.{ℕ, ◌+◌, List, [], Option, Some, None, slice_get, replicate, ◌≡◌, length, map, max, sum, ◌≤◌, All, option_and_then}
 use Rattle.wasmi_raw.specs.declared.raw.RawVal.{RawVal}
 use Rattle.wasmi_raw.specs.RawVal.{<a href="../../raw/RawValSpecs/index.html#raw_of">raw_of</a>}
 use Rattle.wasmi_meter.specs.Meter.{<a href="../../meter/MeterSpecs/index.html#Meter">Meter</a>}
@@ -4607,9 +4552,8 @@ abbrev pub <b id="IsValidCall">IsValidCall</b> : Call → Type 0
     pub mod StateSpecs {}
     #[doc = r####"Steps and runs of a machine: the subject and the effect of each call, the vector that it makes, whether it is charged for what it writes, what each effect changes in a world, the replies to it, also by a copy of a slice, and turns one after another.
 
-<pre><code>use Rattle.std.specs.Prelude.{◌≡◌, ◌⊎◌, ◌+◌, ◌&lt;◌, ◌≤◌, ℕ, Bool, true, false, List, Option, Some, None, Result, Ok, Vec, slice_get, [], ◌∷◌, length, map}
+<pre><code>use Rattle.std.specs.Prelude.{◌≡◌, ◌⊎◌, ◌+◌, ◌&lt;◌, ◌≤◌, ℕ, Bool, true, false, List, Option, Some, None, Result, Ok, Vec, slice_get, [], ◌∷◌, length, map, option_map, option_and_then}
 use Rattle.std.specs.Global.{Global}
-use Rattle.std.specs.Option.{option_map, option_and_then}
 use Rattle.wasmi_types.specs.Numbers.{<a href="../../types/NumbersSpecs/index.html#le_bytes">le_bytes</a>}
 use Rattle.wasmi_types.specs.declared.{trap.TrapCode.TrapCode, value.RefType.RefType}
 use Rattle.wasmi_raw.specs.declared.raw.RawVal.{RawVal}
@@ -4637,12 +4581,7 @@ use Rattle.wasmi_machine.specs.declared.calls.Reply.TheVariants as reply
 
 -- what a call is about
 pub data <b id="Subject">Subject</b> : Type 0 where
-  <b id="TheMeter">TheMeter</b> : <a href="../../machine/StepsSpecs/index.html#Subject">Subject</a>
-  <b id="Memories">Memories</b> : <a href="../../machine/StepsSpecs/index.html#Subject">Subject</a>
-  <b id="Tables">Tables</b> : <a href="../../machine/StepsSpecs/index.html#Subject">Subject</a>
-  <b id="Values">Values</b> : <a href="../../machine/StepsSpecs/index.html#Subject">Subject</a>
-  <b id="RegisterFile">RegisterFile</b> : <a href="../../machine/StepsSpecs/index.html#Subject">Subject</a>
-  <b id="VectorAccesses">VectorAccesses</b> : <a href="../../machine/StepsSpecs/index.html#Subject">Subject</a>
+  <b id="TheMeter">TheMeter</b> <b id="Memories">Memories</b> <b id="Tables">Tables</b> <b id="Values">Values</b> <b id="RegisterFile">RegisterFile</b> <b id="VectorAccesses">VectorAccesses</b> : <a href="../../machine/StepsSpecs/index.html#Subject">Subject</a>
 
 -- What tools/generate writes begins.
 -- what each call is about
@@ -4700,13 +4639,10 @@ pub data <b id="Change">Change</b> : Type 0 where
   <b id="BytesWritten">BytesWritten</b> : ℕ → ℕ → List ℕ → <a href="../../machine/StepsSpecs/index.html#Change">Change</a>
   <b id="BytesStored">BytesStored</b> : ℕ → ℕ → Option (List ℕ) → <a href="../../machine/StepsSpecs/index.html#Change">Change</a>
   <b id="RegisterSet">RegisterSet</b> : ℕ → Option (Result RawVal TrapCode) → <a href="../../machine/StepsSpecs/index.html#Change">Change</a>
-  <b id="MemoryDropped">MemoryDropped</b> : ℕ → <a href="../../machine/StepsSpecs/index.html#Change">Change</a>
-  <b id="TableDropped">TableDropped</b> : ℕ → <a href="../../machine/StepsSpecs/index.html#Change">Change</a>
+  <b id="MemoryDropped">MemoryDropped</b> <b id="TableDropped">TableDropped</b> <b id="ItemsDropped">ItemsDropped</b> <b id="DataDropped">DataDropped</b> : ℕ → <a href="../../machine/StepsSpecs/index.html#Change">Change</a>
   <b id="ElementSet">ElementSet</b> : ℕ → ℕ → TypedRawRef → <a href="../../machine/StepsSpecs/index.html#Change">Change</a>
   <b id="SegmentMade">SegmentMade</b> : RefType → List ℕ → <a href="../../machine/StepsSpecs/index.html#Change">Change</a>
-  <b id="ItemsDropped">ItemsDropped</b> : ℕ → <a href="../../machine/StepsSpecs/index.html#Change">Change</a>
   <b id="DataMade">DataMade</b> : List ℕ → <a href="../../machine/StepsSpecs/index.html#Change">Change</a>
-  <b id="DataDropped">DataDropped</b> : ℕ → <a href="../../machine/StepsSpecs/index.html#Change">Change</a>
   <b id="GlobalMade">GlobalMade</b> : <a href="../../typed/GlobalSpecs/index.html#GlobalInstance">GlobalInstance</a> → <a href="../../machine/StepsSpecs/index.html#Change">Change</a>
   <b id="GlobalSet">GlobalSet</b> : ℕ → TypedRawVal → <a href="../../machine/StepsSpecs/index.html#Change">Change</a>
 
@@ -4722,8 +4658,7 @@ pub data <b id="Effect">Effect</b> : Type 0 where
   <b id="BytesRead">BytesRead</b> : ℕ → ℕ → ℕ → <a href="../../machine/StepsSpecs/index.html#Effect">Effect</a>
   <b id="FuelSet">FuelSet</b> : ℕ → <a href="../../machine/StepsSpecs/index.html#Effect">Effect</a>
   <b id="Changed">Changed</b> : <a href="../../machine/StepsSpecs/index.html#Change">Change</a> → <a href="../../machine/StepsSpecs/index.html#Effect">Effect</a>
-  <b id="MemoryMade">MemoryMade</b> : <a href="../../store/MemorySpecs/index.html#MemoryTypeValue">MemoryTypeValue</a> → <a href="../../machine/StepsSpecs/index.html#Effect">Effect</a>
-  <b id="LentMemoryMade">LentMemoryMade</b> : <a href="../../store/MemorySpecs/index.html#MemoryTypeValue">MemoryTypeValue</a> → <a href="../../machine/StepsSpecs/index.html#Effect">Effect</a>
+  <b id="MemoryMade">MemoryMade</b> <b id="LentMemoryMade">LentMemoryMade</b> : <a href="../../store/MemorySpecs/index.html#MemoryTypeValue">MemoryTypeValue</a> → <a href="../../machine/StepsSpecs/index.html#Effect">Effect</a>
   <b id="MemoryGrown">MemoryGrown</b> : ℕ → ℕ → <a href="../../machine/StepsSpecs/index.html#Effect">Effect</a>
   <b id="TableMade">TableMade</b> : <a href="../../store/TableSpecs/index.html#TableTypeValue">TableTypeValue</a> → TypedRawRef → <a href="../../machine/StepsSpecs/index.html#Effect">Effect</a>
   <b id="TableGrown">TableGrown</b> : ℕ → ℕ → TypedRawRef → <a href="../../machine/StepsSpecs/index.html#Effect">Effect</a>
@@ -4920,7 +4855,7 @@ use Rattle.wasmi_store.specs.Segment.{<a href="../../store/SegmentSpecs/index.ht
 use Rattle.wasmi_store.specs.Table.{<a href="../../store/TableSpecs/index.html#TableValue">TableValue</a>, <a href="../../store/TableSpecs/index.html#TableWrite">TableWrite</a>, <a href="../../store/TableSpecs/index.html#with_elements_reserved">with_elements_reserved</a>, <a href="../../store/TableSpecs/index.html#SetsTable">SetsTable</a>, <a href="../../store/TableSpecs/index.html#element_at">element_at</a>, <a href="../../store/TableSpecs/index.html#filling_of">filling_of</a>, <a href="../../store/TableSpecs/index.html#copy_of">copy_of</a>, <a href="../../store/TableSpecs/index.html#initialization_of">initialization_of</a>}
 use Rattle.wasmi_machine.specs.declared.{calls.Reply.Reply, slots.Slot.Slot}
 use Rattle.wasmi_machine.specs.declared.calls.Reply.TheVariants.{Done, Reference, Table, NoRoom, NoSuch}
-use Rattle.wasmi_machine.specs.Effects.{<a href="../../machine/EffectsSpecs/index.html#reply_of">reply_of</a>, <a href="../../machine/EffectsSpecs/index.html#ChangesAt">ChangesAt</a>, <a href="../../machine/EffectsSpecs/index.html#MeteredSlots">MeteredSlots</a>, <a href="../../machine/EffectsSpecs/index.html#WritesAt">WritesAt</a>, <a href="../../machine/EffectsSpecs/index.html#WritesFrom">WritesFrom</a>, <a href="../../machine/EffectsSpecs/index.html#item_bytes">item_bytes</a>}
+use Rattle.wasmi_machine.specs.Effects.{<a href="../../machine/EffectsSpecs/index.html#reply_of">reply_of</a>, <a href="../../machine/EffectsSpecs/index.html#ChangesAt">ChangesAt</a>, <a href="../../machine/EffectsSpecs/index.html#item_bytes">item_bytes</a>}
 
 -- the element that is asked of a table, if the table is there
 abbrev pub <b id="element_reply">element_reply</b> : ℕ → Option <a href="../../store/TableSpecs/index.html#TableValue">TableValue</a> → Reply
@@ -4938,17 +4873,6 @@ abbrev pub <b id="ReservesElementsAt">ReservesElementsAt</b> : ℕ → ℕ → L
 <a href="../../machine/TableEffectsSpecs/index.html#ReservesElementsAt">ReservesElementsAt</a> k n slots reply slots&#x27; = <a href="../../machine/EffectsSpecs/index.html#ChangesAt">ChangesAt</a> k slots reply slots&#x27;
     (λ x x&#x27;. ((reply ≡ Done) × (x&#x27; ≡ <a href="../../store/TableSpecs/index.html#with_elements_reserved">with_elements_reserved</a> x n))
     ⊎ ((reply ≡ NoRoom) × (x.reserved &lt; n) × (x&#x27; ≡ x)))
-
--- a range of the table of an index is written over, with its charge
-abbrev pub <b id="WritesTableAt">WritesTableAt</b> : ℕ → (<a href="../../store/TableSpecs/index.html#TableValue">TableValue</a> → <a href="../../store/TableSpecs/index.html#TableWrite">TableWrite</a>) → <a href="../../machine/EffectsSpecs/index.html#MeteredSlots">MeteredSlots</a> <a href="../../store/TableSpecs/index.html#TableValue">TableValue</a> → Reply → ℕ
-    → <a href="../../machine/EffectsSpecs/index.html#MeteredSlots">MeteredSlots</a> <a href="../../store/TableSpecs/index.html#TableValue">TableValue</a> → Type 0
-<a href="../../machine/TableEffectsSpecs/index.html#WritesTableAt">WritesTableAt</a> = <a href="../../machine/EffectsSpecs/index.html#WritesAt">WritesAt</a> Table
-
--- a range of the table of an index is written over with what a source has, with its charge; without a source the reply
--- is `NoSuch`, and nothing has changed
-abbrev pub <b id="WritesTableFrom">WritesTableFrom</b> : {Y : Type 0} → Option Y → ℕ → (Y → <a href="../../store/TableSpecs/index.html#TableValue">TableValue</a> → <a href="../../store/TableSpecs/index.html#TableWrite">TableWrite</a>) → <a href="../../machine/EffectsSpecs/index.html#MeteredSlots">MeteredSlots</a> <a href="../../store/TableSpecs/index.html#TableValue">TableValue</a>
-    → Reply → ℕ → <a href="../../machine/EffectsSpecs/index.html#MeteredSlots">MeteredSlots</a> <a href="../../store/TableSpecs/index.html#TableValue">TableValue</a> → Type 0
-<a href="../../machine/TableEffectsSpecs/index.html#WritesTableFrom">WritesTableFrom</a> = <a href="../../machine/EffectsSpecs/index.html#WritesFrom">WritesFrom</a> Table
 
 -- what a range of a table is written over with: a reference, elements of a table, or items of an element segment, from a
 -- place on, if it is there
@@ -4971,7 +4895,7 @@ abbrev pub <b id="element_bytes">element_bytes</b> : ℕ → Reply → ℕ
     pub mod TableEffectsSpecs {}
     #[doc = r####"The calls on element segments, data segments, globals and the meter: their replies, and what each does.
 
-<pre><code>use Rattle.std.specs.Prelude.{◌≡◌, ◌⊎◌, ◌≤◌, ◌&lt;◌, ℕ, Option, Result, Ok, Err, List, [], length, slice_get, if◌then◌else◌, is_some}
+<pre><code>use Rattle.std.specs.Prelude.{◌≡◌, ◌⊎◌, ◌≤◌, ◌&lt;◌, ℕ, Option, Result, Ok, Err, List, [], length, if◌then◌else◌, is_some}
 use Rattle.std.specs.Option.{option_map_or}
 use Rattle.wasmi_types.specs.declared.value.RefType.{RefType}
 use Rattle.wasmi_typed.specs.declared.{typed.TypedRawVal.TypedRawVal, global.GlobalError.GlobalError}
@@ -5015,10 +4939,6 @@ abbrev pub <b id="SetsGlobalAt">SetsGlobalAt</b> : ℕ → TypedRawVal → List 
 -- the value that is asked of a global, if it is there
 abbrev pub <b id="global_reply">global_reply</b> : Option <a href="../../typed/GlobalSpecs/index.html#GlobalInstance">GlobalInstance</a> → Reply
 <a href="../../machine/ValueEffectsSpecs/index.html#global_reply">global_reply</a> global = option_map_or (λ x. Value x.value) global NoSuch
-
--- the reply to a call for the value of the global of an index
-abbrev pub <b id="GetsGlobalAt">GetsGlobalAt</b> : ℕ → List <a href="../../typed/GlobalSpecs/index.html#GlobalInstance">GlobalInstance</a> → Reply → Type 0
-<a href="../../machine/ValueEffectsSpecs/index.html#GetsGlobalAt">GetsGlobalAt</a> k globals reply = reply ≡ <a href="../../machine/ValueEffectsSpecs/index.html#global_reply">global_reply</a> (slice_get globals k)
 
 -- the fuel that is left is set, where the meter is on
 abbrev pub <b id="SetsFuel">SetsFuel</b> : ℕ → <a href="../../machine/StateSpecs/index.html#State">State</a> → Reply → <a href="../../machine/StateSpecs/index.html#State">State</a> → Type 0
@@ -5064,15 +4984,9 @@ use Rattle.wasmi_ops.specs.declared.load_store.LoadOp.TheVariants as load
 use Rattle.wasmi_ops.specs.declared.load_store.StoreOp.TheVariants as store
 use Rattle.wasmi_machine.specs.declared.calls.Call.TheVariants as call
 
--- an index of a machine: of a memory, a table, an element segment, a data segment or a global, by the order of their
--- making, or of a register
+-- an index of a machine: of a memory, a table, a segment of either kind or a global, as they were made, or a register
 pub data <b id="Location">Location</b> : Type 0 where
-  <b id="MemoryAt">MemoryAt</b> : ℕ → <a href="../../laws/PlacesSpecs/index.html#Location">Location</a>
-  <b id="TableAt">TableAt</b> : ℕ → <a href="../../laws/PlacesSpecs/index.html#Location">Location</a>
-  <b id="SegmentAt">SegmentAt</b> : ℕ → <a href="../../laws/PlacesSpecs/index.html#Location">Location</a>
-  <b id="DataAt">DataAt</b> : ℕ → <a href="../../laws/PlacesSpecs/index.html#Location">Location</a>
-  <b id="GlobalAt">GlobalAt</b> : ℕ → <a href="../../laws/PlacesSpecs/index.html#Location">Location</a>
-  <b id="RegisterAt">RegisterAt</b> : ℕ → <a href="../../laws/PlacesSpecs/index.html#Location">Location</a>
+  <b id="MemoryAt">MemoryAt</b> <b id="TableAt">TableAt</b> <b id="SegmentAt">SegmentAt</b> <b id="DataAt">DataAt</b> <b id="GlobalAt">GlobalAt</b> <b id="RegisterAt">RegisterAt</b> : ℕ → <a href="../../laws/PlacesSpecs/index.html#Location">Location</a>
 
 -- what can be at an index: of a memory or a table its slot, live or dropped
 abbrev pub <b id="Content">Content</b> : <a href="../../laws/PlacesSpecs/index.html#Location">Location</a> → Type 0
@@ -5370,7 +5284,6 @@ use Rattle.wasmi_meter.specs.Limiter.{<a href="../../meter/LimiterSpecs/index.ht
 use Rattle.wasmi_machine.specs.declared.{calls.Call.Call, calls.Reply.Reply, slots.Slot.Slot, slots.SlotCounts.SlotCounts}
 use Rattle.wasmi_machine.specs.declared.calls.Call.TheVariants.{NewMemory, NewLentMemory, GrowMemory, Read, NewTable, GrowTable, NewSegment, NewData, NewGlobal}
 use Rattle.wasmi_machine.specs.State.{<a href="../../machine/StateSpecs/index.html#State">State</a>, <a href="../../machine/StateSpecs/index.html#live_at">live_at</a>, <a href="../../machine/StateSpecs/index.html#with_reserved">with_reserved</a>, <a href="../../machine/StateSpecs/index.html#World">World</a>, <a href="../../machine/StateSpecs/index.html#Turn">Turn</a>}
-use Rattle.wasmi_machine.specs.Effects.{<a href="../../machine/EffectsSpecs/index.html#OnLive">OnLive</a>}
 use Rattle.wasmi_machine.specs.Determinism.{<a href="../../machine/DeterminismSpecs/index.html#IsNotOutOfMemory">IsNotOutOfMemory</a>}
 use Rattle.wasmi_machine.specs.Steps.{<a href="../../machine/StepsSpecs/index.html#Step">Step</a>, <a href="../../machine/StepsSpecs/index.html#IsRunOf">IsRunOf</a>}
 
@@ -5385,7 +5298,7 @@ abbrev pub <b id="IsLent">IsLent</b> : <a href="../../store/MemorySpecs/index.ht
 
 -- an index names a memory in a lent region, if it names a live one
 abbrev pub <b id="IsInRegion">IsInRegion</b> : List (Slot <a href="../../store/MemorySpecs/index.html#MemoryValue">MemoryValue</a>) → ℕ → Type 0
-<a href="../../laws/ReservedSpecs/index.html#IsInRegion">IsInRegion</a> slots k = <a href="../../machine/EffectsSpecs/index.html#OnLive">OnLive</a> (<a href="../../machine/StateSpecs/index.html#live_at">live_at</a> slots k) (Unit {0}) <a href="../../laws/ReservedSpecs/index.html#IsLent">IsLent</a>
+<a href="../../laws/ReservedSpecs/index.html#IsInRegion">IsInRegion</a> slots k = MatchOption (<a href="../../machine/StateSpecs/index.html#live_at">live_at</a> slots k) (Unit {0}) <a href="../../laws/ReservedSpecs/index.html#IsLent">IsLent</a>
 
 -- memory is reserved for all elements of a table up to its maximum
 abbrev pub <b id="IsReservedToMaximum">IsReservedToMaximum</b> : <a href="../../store/TableSpecs/index.html#TableValue">TableValue</a> → Type 0
@@ -5393,7 +5306,7 @@ abbrev pub <b id="IsReservedToMaximum">IsReservedToMaximum</b> : <a href="../../
 
 -- an index names a table that is reserved up to its maximum, if it names a live one
 abbrev pub <b id="IsReservedTable">IsReservedTable</b> : List (Slot <a href="../../store/TableSpecs/index.html#TableValue">TableValue</a>) → ℕ → Type 0
-<a href="../../laws/ReservedSpecs/index.html#IsReservedTable">IsReservedTable</a> slots k = <a href="../../machine/EffectsSpecs/index.html#OnLive">OnLive</a> (<a href="../../machine/StateSpecs/index.html#live_at">live_at</a> slots k) (Unit {0}) <a href="../../laws/ReservedSpecs/index.html#IsReservedToMaximum">IsReservedToMaximum</a>
+<a href="../../laws/ReservedSpecs/index.html#IsReservedTable">IsReservedTable</a> slots k = MatchOption (<a href="../../machine/StateSpecs/index.html#live_at">live_at</a> slots k) (Unit {0}) <a href="../../laws/ReservedSpecs/index.html#IsReservedToMaximum">IsReservedToMaximum</a>
 
 -- memory is reserved for n more elements of a table, or for all up to its maximum
 abbrev pub <b id="HasElements">HasElements</b> : ℕ → <a href="../../store/TableSpecs/index.html#TableValue">TableValue</a> → Type 0
@@ -5401,14 +5314,11 @@ abbrev pub <b id="HasElements">HasElements</b> : ℕ → <a href="../../store/Ta
 
 -- a table of an index, if it is there, has memory for n more elements
 abbrev pub <b id="HasElementsAt">HasElementsAt</b> : List (Slot <a href="../../store/TableSpecs/index.html#TableValue">TableValue</a>) → ℕ → ℕ → Type 0
-<a href="../../laws/ReservedSpecs/index.html#HasElementsAt">HasElementsAt</a> slots k n = <a href="../../machine/EffectsSpecs/index.html#OnLive">OnLive</a> (<a href="../../machine/StateSpecs/index.html#live_at">live_at</a> slots k) (Unit {0}) (<a href="../../laws/ReservedSpecs/index.html#HasElements">HasElements</a> n)
+<a href="../../laws/ReservedSpecs/index.html#HasElementsAt">HasElementsAt</a> slots k n = MatchOption (<a href="../../machine/StateSpecs/index.html#live_at">live_at</a> slots k) (Unit {0}) (<a href="../../laws/ReservedSpecs/index.html#HasElements">HasElements</a> n)
 
 -- a kind of what is made in a slot that can be reserved for it, without memory of its own
 pub data <b id="SlotKind">SlotKind</b> : Type 0 where
-  <b id="Memories">Memories</b> : <a href="../../laws/ReservedSpecs/index.html#SlotKind">SlotKind</a>
-  <b id="Segments">Segments</b> : <a href="../../laws/ReservedSpecs/index.html#SlotKind">SlotKind</a>
-  <b id="DataSegments">DataSegments</b> : <a href="../../laws/ReservedSpecs/index.html#SlotKind">SlotKind</a>
-  <b id="Globals">Globals</b> : <a href="../../laws/ReservedSpecs/index.html#SlotKind">SlotKind</a>
+  <b id="Memories">Memories</b> <b id="Segments">Segments</b> <b id="DataSegments">DataSegments</b> <b id="Globals">Globals</b> : <a href="../../laws/ReservedSpecs/index.html#SlotKind">SlotKind</a>
 
 -- how many of a kind were made on a machine, each in a slot
 abbrev pub <b id="made_of">made_of</b> : <a href="../../machine/StateSpecs/index.html#State">State</a> → <a href="../../laws/ReservedSpecs/index.html#SlotKind">SlotKind</a> → ℕ
@@ -5467,8 +5377,7 @@ abbrev pub <b id="takes_slot">takes_slot</b> : <a href="../../laws/ReservedSpecs
 abbrev pub <b id="HasSlots">HasSlots</b> : <a href="../../machine/StateSpecs/index.html#State">State</a> → List Call → <a href="../../laws/ReservedSpecs/index.html#SlotKind">SlotKind</a> → Type 0
 <a href="../../laws/ReservedSpecs/index.html#HasSlots">HasSlots</a> s calls kind = <a href="../../laws/ReservedSpecs/index.html#made_of">made_of</a> s kind + count_by (<a href="../../laws/ReservedSpecs/index.html#takes_slot">takes_slot</a> kind) calls ≤ <a href="../../laws/ReservedSpecs/index.html#slots_for">slots_for</a> s.reserved kind
 
--- a machine has reserved what these calls need: each needs only a slot, and of each kind as many slots as they take are
--- reserved and free
+-- a machine has reserved what these calls need: each needs only a slot, and of each kind as many as they take are free
 pub record <b id="IsReservedFor">IsReservedFor</b> (s : <a href="../../machine/StateSpecs/index.html#State">State</a>) (calls : List Call) : Type 0 where
   pub <b id="needs">needs</b> : All (<a href="../../laws/ReservedSpecs/index.html#NeedsOnlySlot">NeedsOnlySlot</a> s) calls
   pub <b id="enough">enough</b> : (kind : <a href="../../laws/ReservedSpecs/index.html#SlotKind">SlotKind</a>) → <a href="../../laws/ReservedSpecs/index.html#HasSlots">HasSlots</a> s calls kind
@@ -5539,7 +5448,7 @@ abbrev pub <b id="SlotsSufficeForTenants">SlotsSufficeForTenants</b> : Type 0
     pub mod ReservedPoolsSpecs {}
     #[doc = r####"Laws over turns and runs: runs that are cut in two, sizes and totals that never shrink, plain refusals that change nothing, the caps of a quota, what a run keeps of its meter, and the same run with more fuel.
 
-<pre><code>use Rattle.std.specs.Prelude.{◌≡◌, ◌≤◌, ◌++◌, ℕ, List, length, take, drop, map, Option, Some, slice_get, All, ◌+◌, is_some}
+<pre><code>use Rattle.std.specs.Prelude.{◌≡◌, ◌≤◌, ◌++◌, ℕ, List, length, take, drop, map, Option, Some, slice_get, All, ◌+◌, is_some, option_map}
 use Rattle.wasmi_meter.specs.declared.{limiter.Kind.Kind, quota.Quota.Quota, error.MemoryError.MemoryError, error.TableError.TableError}
 use Rattle.wasmi_meter.specs.Limiter.{<a href="../../meter/LimiterSpecs/index.html#Rules">Rules</a>, <a href="../../meter/LimiterSpecs/index.html#optional_rules">optional_rules</a>}
 use Rattle.wasmi_meter.specs.Capped.{<a href="../../meter/CappedSpecs/index.html#IsWithinCaps">IsWithinCaps</a>, <a href="../../meter/CappedSpecs/index.html#cap_of">cap_of</a>, <a href="../../meter/CappedSpecs/index.html#holdings">holdings</a>, <a href="../../meter/CappedSpecs/index.html#quota_rules">quota_rules</a>}
@@ -5547,7 +5456,6 @@ use Rattle.wasmi_machine.specs.declared.{calls.Call.Call, calls.Reply.Reply}
 use Rattle.wasmi_machine.specs.State.{<a href="../../machine/StateSpecs/index.html#State">State</a>, <a href="../../machine/StateSpecs/index.html#World">World</a>, <a href="../../machine/StateSpecs/index.html#Turn">Turn</a>, <a href="../../machine/StateSpecs/index.html#world">world</a>, <a href="../../machine/StateSpecs/index.html#IsRefusal">IsRefusal</a>, <a href="../../machine/StateSpecs/index.html#sizes">sizes</a>, <a href="../../machine/StateSpecs/index.html#total">total</a>, <a href="../../machine/StateSpecs/index.html#HoldsTotals">HoldsTotals</a>}
 use Rattle.wasmi_machine.specs.Steps.{<a href="../../machine/StepsSpecs/index.html#Step">Step</a>, <a href="../../machine/StepsSpecs/index.html#Sequence">Sequence</a>, <a href="../../machine/StepsSpecs/index.html#Run">Run</a>, <a href="../../machine/StepsSpecs/index.html#IsRunOf">IsRunOf</a>}
 use Rattle.wasmi_machine.specs.Exchange.{<a href="../../machine/ExchangeSpecs/index.html#Nowhere">Nowhere</a>, <a href="../../machine/ExchangeSpecs/index.html#place_of">place_of</a>}
-use Rattle.std.specs.Option.{option_map}
 use Rattle.wasmi_meter.specs.Meter.{<a href="../../meter/MeterSpecs/index.html#Meter">Meter</a>, <a href="../../meter/MeterSpecs/index.html#amount_left">amount_left</a>}
 use Rattle.wasmi_machine.specs.declared.calls.Call.TheVariants.{SetFuel, GetFuel}
 use Rattle.wasmi_machine.specs.declared.calls.Reply.TheVariants.{Memory, Table}
@@ -5567,51 +5475,26 @@ pub record <b id="IsRunInTwo">IsRunInTwo</b> {S : Type 0} (rules : <a href="../.
 -- What tools/generate writes begins.
 -- the error of a memory is found before the limiter is asked and before anything is charged
 abbrev pub <b id="IsPlainMemoryError">IsPlainMemoryError</b> : MemoryError → Type 0
-<a href="../../laws/RunsSpecs/index.html#IsPlainMemoryError">IsPlainMemoryError</a> memory.OutOfSystemMemory = ⊥
-<a href="../../laws/RunsSpecs/index.html#IsPlainMemoryError">IsPlainMemoryError</a> memory.OutOfBoundsGrowth = ⊥
 <a href="../../laws/RunsSpecs/index.html#IsPlainMemoryError">IsPlainMemoryError</a> memory.OutOfBoundsAccess = Unit {0}
-<a href="../../laws/RunsSpecs/index.html#IsPlainMemoryError">IsPlainMemoryError</a> memory.InvalidMemoryType = ⊥
-<a href="../../laws/RunsSpecs/index.html#IsPlainMemoryError">IsPlainMemoryError</a> memory.InvalidStaticBufferSize = ⊥
-<a href="../../laws/RunsSpecs/index.html#IsPlainMemoryError">IsPlainMemoryError</a> memory.ResourceLimiterDeniedAllocation = ⊥
-<a href="../../laws/RunsSpecs/index.html#IsPlainMemoryError">IsPlainMemoryError</a> memory.MinimumSizeOverflow = ⊥
-<a href="../../laws/RunsSpecs/index.html#IsPlainMemoryError">IsPlainMemoryError</a> memory.MaximumSizeOverflow = ⊥
-<a href="../../laws/RunsSpecs/index.html#IsPlainMemoryError">IsPlainMemoryError</a> (memory.OutOfFuel required) = ⊥
+<a href="../../laws/RunsSpecs/index.html#IsPlainMemoryError">IsPlainMemoryError</a> error = ⊥
 
 -- the error of a table is found before the limiter is asked and before anything is charged
 abbrev pub <b id="IsPlainTableError">IsPlainTableError</b> : TableError → Type 0
-<a href="../../laws/RunsSpecs/index.html#IsPlainTableError">IsPlainTableError</a> table.OutOfSystemMemory = ⊥
-<a href="../../laws/RunsSpecs/index.html#IsPlainTableError">IsPlainTableError</a> table.MinimumSizeOverflow = ⊥
-<a href="../../laws/RunsSpecs/index.html#IsPlainTableError">IsPlainTableError</a> table.MaximumSizeOverflow = ⊥
-<a href="../../laws/RunsSpecs/index.html#IsPlainTableError">IsPlainTableError</a> table.ResourceLimiterDeniedAllocation = ⊥
-<a href="../../laws/RunsSpecs/index.html#IsPlainTableError">IsPlainTableError</a> table.GrowOutOfBounds = ⊥
 <a href="../../laws/RunsSpecs/index.html#IsPlainTableError">IsPlainTableError</a> table.InitOutOfBounds = Unit {0}
 <a href="../../laws/RunsSpecs/index.html#IsPlainTableError">IsPlainTableError</a> table.FillOutOfBounds = Unit {0}
 <a href="../../laws/RunsSpecs/index.html#IsPlainTableError">IsPlainTableError</a> table.SetOutOfBounds = Unit {0}
 <a href="../../laws/RunsSpecs/index.html#IsPlainTableError">IsPlainTableError</a> table.CopyOutOfBounds = Unit {0}
 <a href="../../laws/RunsSpecs/index.html#IsPlainTableError">IsPlainTableError</a> table.ElementTypeMismatch = Unit {0}
-<a href="../../laws/RunsSpecs/index.html#IsPlainTableError">IsPlainTableError</a> (table.OutOfFuel required) = ⊥
+<a href="../../laws/RunsSpecs/index.html#IsPlainTableError">IsPlainTableError</a> error = ⊥
 
 -- What tools/generate writes ends.
 
 -- The reply is a refusal that is found before the limiter is asked and before anything is charged: a trap, an index
--- that names nothing, an access past the end, another type, metering that is off, or no place for a new slot. Each reply
--- has a line.
+-- that names nothing, an access past the end, another type, metering that is off, or no place for a new slot.
 abbrev pub <b id="IsPlainRefusal">IsPlainRefusal</b> : Reply → Type 0
-<a href="../../laws/RunsSpecs/index.html#IsPlainRefusal">IsPlainRefusal</a> reply.Done = ⊥
-<a href="../../laws/RunsSpecs/index.html#IsPlainRefusal">IsPlainRefusal</a> (reply.Made index) = ⊥
-<a href="../../laws/RunsSpecs/index.html#IsPlainRefusal">IsPlainRefusal</a> (reply.Value value) = ⊥
-<a href="../../laws/RunsSpecs/index.html#IsPlainRefusal">IsPlainRefusal</a> (reply.Number number) = ⊥
-<a href="../../laws/RunsSpecs/index.html#IsPlainRefusal">IsPlainRefusal</a> (reply.Bytes bytes) = ⊥
-<a href="../../laws/RunsSpecs/index.html#IsPlainRefusal">IsPlainRefusal</a> (reply.Reference value) = ⊥
 <a href="../../laws/RunsSpecs/index.html#IsPlainRefusal">IsPlainRefusal</a> (reply.Memory error) = <a href="../../laws/RunsSpecs/index.html#IsPlainMemoryError">IsPlainMemoryError</a> error
 <a href="../../laws/RunsSpecs/index.html#IsPlainRefusal">IsPlainRefusal</a> (reply.Table error) = <a href="../../laws/RunsSpecs/index.html#IsPlainTableError">IsPlainTableError</a> error
-<a href="../../laws/RunsSpecs/index.html#IsPlainRefusal">IsPlainRefusal</a> (reply.Fuel error) = Unit {0}
-<a href="../../laws/RunsSpecs/index.html#IsPlainRefusal">IsPlainRefusal</a> (reply.Global error) = Unit {0}
-<a href="../../laws/RunsSpecs/index.html#IsPlainRefusal">IsPlainRefusal</a> (reply.Segment error) = Unit {0}
-<a href="../../laws/RunsSpecs/index.html#IsPlainRefusal">IsPlainRefusal</a> (reply.Trap code) = Unit {0}
-<a href="../../laws/RunsSpecs/index.html#IsPlainRefusal">IsPlainRefusal</a> reply.NoSuch = Unit {0}
-<a href="../../laws/RunsSpecs/index.html#IsPlainRefusal">IsPlainRefusal</a> reply.NoRegion = Unit {0}
-<a href="../../laws/RunsSpecs/index.html#IsPlainRefusal">IsPlainRefusal</a> reply.NoRoom = Unit {0}
+<a href="../../laws/RunsSpecs/index.html#IsPlainRefusal">IsPlainRefusal</a> reply = <a href="../../machine/StateSpecs/index.html#IsRefusal">IsRefusal</a> reply
 
 module _ {S : Type 0} (rules : <a href="../../meter/LimiterSpecs/index.html#Rules">Rules</a> S) where
   -- a run of turns is, at each place, a run of those before it, and a run of the others from where these end
@@ -5886,12 +5769,11 @@ pub record <b id="IsKept">IsKept</b> (pool : <a href="../../budget/PoolSpecs/ind
 
 -- the limiter of the machine s of an index: it holds what the machine has, beside what the others have
 abbrev pub <b id="tenant_at">tenant_at</b> : <a href="../../budget/PoolSpecs/index.html#PoolValue">PoolValue</a> → ℕ → <a href="../../machine/StateSpecs/index.html#State">State</a> → Tenant
-<a href="../../budget/PoolSpecs/index.html#tenant_at">tenant_at</a> pool index s =
-    record {
-      <a href="../../budget/PoolSpecs/index.html#caps">caps</a> = pool.caps;
-      others = <a href="../../meter/CappedSpecs/index.html#amounts_of">amounts_of</a> (<a href="../../budget/PoolSpecs/index.html#total_of">total_of</a> (remove pool.machines index));
-      <a href="../../budget/PoolSpecs/index.html#holdings">holdings</a> = record { held = <a href="../../meter/CappedSpecs/index.html#amounts_of">amounts_of</a> (<a href="../../machine/StateSpecs/index.html#total">total</a> s); last = None };
-    }
+<a href="../../budget/PoolSpecs/index.html#tenant_at">tenant_at</a> pool index s = record {
+  <a href="../../budget/PoolSpecs/index.html#caps">caps</a> = pool.caps;
+  others = <a href="../../meter/CappedSpecs/index.html#amounts_of">amounts_of</a> (<a href="../../budget/PoolSpecs/index.html#total_of">total_of</a> (remove pool.machines index));
+  <a href="../../budget/PoolSpecs/index.html#holdings">holdings</a> = record { held = <a href="../../meter/CappedSpecs/index.html#amounts_of">amounts_of</a> (<a href="../../machine/StateSpecs/index.html#total">total</a> s); last = None };
+}
 
 -- the machine has no bytes and no elements, and dropped none
 pub record <b id="HasNothing">HasNothing</b> (s : <a href="../../machine/StateSpecs/index.html#State">State</a>) : Type 0 where
@@ -6209,13 +6091,13 @@ abbrev pub <b id="GrowsTableIn">GrowsTableIn</b> : {S : Type 0} → <a href="../
 pub mod facade {
     #[doc = r####"The types of the parts that clauses and specifications cite, passed on from one place. Declares nothing.
 
-<pre><code>pub <b id="use">use</b> Rattle.wasmi_types.specs.declared.{index_ty.IndexType.IndexType, trap.TrapCode.TrapCode, value.RefType.RefType, value.ValType.ValType}
-pub <b id="use">use</b> Rattle.wasmi_raw.specs.declared.raw.RawVal.{RawVal}
-pub <b id="use">use</b> Rattle.wasmi_typed.specs.declared.{typed.TypedRawVal.TypedRawVal, typed_ref.TypedRawRef.TypedRawRef, global.Mutability.Mutability, global.GlobalError.GlobalError}
-pub <b id="use">use</b> Rattle.wasmi_meter.specs.declared.{error.LimiterError.LimiterError, error.MemoryError.MemoryError, error.TableError.TableError, fuel.FuelError.FuelError, fuel.CustomFuelCosts.CustomFuelCosts, limiter.Kind.Kind, quota.Quota.Quota}
-pub <b id="use">use</b> Rattle.wasmi_store.specs.declared.table.element.SegmentError.{SegmentError}
-pub <b id="use">use</b> Rattle.wasmi_ops.specs.declared.{load_store.LoadOp.LoadOp, load_store.StoreOp.StoreOp, vector.BinaryOp.BinaryOp, vector.UnaryOp.UnaryOp, vector.TernaryOp.TernaryOp, vector.ShiftOp.ShiftOp, vector.TestOp.TestOp, vector.MakeOp.MakeOp, vector.ExtractOp.ExtractOp, vector.ReplaceOp.ReplaceOp, vector.VectorLoadOp.VectorLoadOp, vector.LoadLaneOp.LoadLaneOp, vector.StoreLaneOp.StoreLaneOp}
-pub <b id="use">use</b> Rattle.wasmi_machine.specs.declared.{calls.Call.Call, calls.Reply.Reply, slots.Slot.Slot}
+<pre><code>pub use Rattle.wasmi_types.specs.declared.{index_ty.IndexType.IndexType, trap.TrapCode.TrapCode, value.RefType.RefType, value.ValType.ValType}
+pub use Rattle.wasmi_raw.specs.declared.raw.RawVal.{RawVal}
+pub use Rattle.wasmi_typed.specs.declared.{typed.TypedRawVal.TypedRawVal, typed_ref.TypedRawRef.TypedRawRef, global.Mutability.Mutability, global.GlobalError.GlobalError}
+pub use Rattle.wasmi_meter.specs.declared.{error.LimiterError.LimiterError, error.MemoryError.MemoryError, error.TableError.TableError, fuel.FuelError.FuelError, fuel.CustomFuelCosts.CustomFuelCosts, limiter.Kind.Kind, quota.Quota.Quota}
+pub use Rattle.wasmi_store.specs.declared.table.element.SegmentError.{SegmentError}
+pub use Rattle.wasmi_ops.specs.declared.{load_store.LoadOp.LoadOp, load_store.StoreOp.StoreOp, vector.BinaryOp.BinaryOp, vector.UnaryOp.UnaryOp, vector.TernaryOp.TernaryOp, vector.ShiftOp.ShiftOp, vector.TestOp.TestOp, vector.MakeOp.MakeOp, vector.ExtractOp.ExtractOp, vector.ReplaceOp.ReplaceOp, vector.VectorLoadOp.VectorLoadOp, vector.LoadLaneOp.LoadLaneOp, vector.StoreLaneOp.StoreLaneOp}
+pub use Rattle.wasmi_machine.specs.declared.{calls.Call.Call, calls.Reply.Reply, slots.Slot.Slot}
 </code></pre>
 "####]
     pub mod TypesSpecs {}
@@ -6363,7 +6245,7 @@ pub record <b id="WritesLanes">WritesLanes</b> (words : <a href="../../operands/
 }
 /// Definitions of `wasmi_grammar`.
 pub mod grammar {
-    #[doc = r####"What the words of a command mean, the limits and the type of a memory or a table that they name, and the words that a command begins with.
+    #[doc = r####"What the words of a command mean, the limits and the type of a memory or a table that they name, and its first word.
 
 <pre><code>use Rattle.std.specs.Prelude.{◌≡◌, ◌⊎◌, ℕ, List, Option, ◌≤◌, length, codes, drop}
 use Rattle.wasmi_types.specs.declared.index_ty.IndexType.{IndexType}
@@ -6600,7 +6482,7 @@ abbrev pub <b id="IsVectorWord">IsVectorWord</b> : List ℕ → Type 0
     pub mod CommandsSpecs {}
     #[doc = r####"What the words of a header line or an \`as\` line mean, and what the header lines ask for: a meter, tenants, a region, slots, and the machine that a script starts with.
 
-<pre><code>use Rattle.std.specs.Prelude.{◌≡◌, ◌≤◌, ℕ, Option, List, Some, None, length, codes, replicate}
+<pre><code>use Rattle.std.specs.Prelude.{◌≡◌, ◌≤◌, ℕ, Option, List, Some, None, length, codes, replicate, unwrap_or}
 use Rattle.std.specs.Option.{option_map, option_map_or}
 use Rattle.wasmi_meter.specs.Meter.{<a href="../../meter/MeterSpecs/index.html#default_costs">default_costs</a>, <a href="../../meter/MeterSpecs/index.html#Meter">Meter</a>}
 use Rattle.wasmi_machine.specs.State.{<a href="../../machine/StateSpecs/index.html#State">State</a>, <a href="../../machine/StateSpecs/index.html#new_state">new_state</a>, <a href="../../machine/StateSpecs/index.html#no_slots">no_slots</a>}
@@ -6617,24 +6499,14 @@ abbrev pub <b id="WritesMeter">WritesMeter</b> : <a href="../../operands/LineWor
 <a href="../../grammar/HeadersSpecs/index.html#WritesMeter">WritesMeter</a> words (On bytes_per_fuel) =
     (length words ≡ 2) × (<a href="../../operands/LineWordsSpecs/index.html#word_at">word_at</a> words 0 ≡ codes "on") × <a href="../../operands/LineWordsSpecs/index.html#WritesNumber">WritesNumber</a> 32 (<a href="../../operands/LineWordsSpecs/index.html#word_at">word_at</a> words 1) bytes_per_fuel
 
--- the word that a limiter line begins with
-abbrev pub <b id="limiter_word">limiter_word</b> : LimiterLine → List ℕ
-<a href="../../grammar/HeadersSpecs/index.html#limiter_word">limiter_word</a> (Quota caps) = codes "quota"
-<a href="../../grammar/HeadersSpecs/index.html#limiter_word">limiter_word</a> (Answers answers) = codes "answers"
-<a href="../../grammar/HeadersSpecs/index.html#limiter_word">limiter_word</a> (Tenants line) = codes "tenants"
-
--- the words after the first write what the line says
-abbrev pub <b id="WritesLimiter">WritesLimiter</b> : <a href="../../operands/LineWordsSpecs/index.html#LineWords">LineWords</a> → LimiterLine → Type 0
-<a href="../../grammar/HeadersSpecs/index.html#WritesLimiter">WritesLimiter</a> words (Quota caps) =
-    (length words ≡ 2) × <a href="../../operands/LineWordsSpecs/index.html#WritesNumber">WritesNumber</a> 64 (<a href="../../operands/LineWordsSpecs/index.html#word_at">word_at</a> words 0) caps.bytes × <a href="../../operands/LineWordsSpecs/index.html#WritesNumber">WritesNumber</a> 64 (<a href="../../operands/LineWordsSpecs/index.html#word_at">word_at</a> words 1) caps.elements
-<a href="../../grammar/HeadersSpecs/index.html#WritesLimiter">WritesLimiter</a> words (Answers answers) = <a href="../../operands/LineWordsSpecs/index.html#WritesEach">WritesEach</a> <a href="../../operands/NamesSpecs/index.html#WritesAnswer">WritesAnswer</a> words answers.items
-<a href="../../grammar/HeadersSpecs/index.html#WritesLimiter">WritesLimiter</a> words (Tenants line) =
-    (length words ≡ 3) × <a href="../../operands/LineWordsSpecs/index.html#WritesNumber">WritesNumber</a> 64 (<a href="../../operands/LineWordsSpecs/index.html#word_at">word_at</a> words 0) line.count × (1 ≤ line.count) × (line.count ≤ 1024)
-    × <a href="../../operands/LineWordsSpecs/index.html#WritesNumber">WritesNumber</a> 64 (<a href="../../operands/LineWordsSpecs/index.html#word_at">word_at</a> words 1) line.caps.bytes × <a href="../../operands/LineWordsSpecs/index.html#WritesNumber">WritesNumber</a> 64 (<a href="../../operands/LineWordsSpecs/index.html#word_at">word_at</a> words 2) line.caps.elements
-
 -- the word that a limiter line begins with, and the words after it, name this line
 abbrev pub <b id="NamesLimiterAfter">NamesLimiterAfter</b> : List ℕ → <a href="../../operands/LineWordsSpecs/index.html#LineWords">LineWords</a> → LimiterLine → Type 0
-<a href="../../grammar/HeadersSpecs/index.html#NamesLimiterAfter">NamesLimiterAfter</a> name operands line = (<a href="../../grammar/HeadersSpecs/index.html#limiter_word">limiter_word</a> line ≡ name) × <a href="../../grammar/HeadersSpecs/index.html#WritesLimiter">WritesLimiter</a> operands line
+<a href="../../grammar/HeadersSpecs/index.html#NamesLimiterAfter">NamesLimiterAfter</a> name words (Quota caps) = (codes "quota" ≡ name) × ((length words ≡ 2)
+    × <a href="../../operands/LineWordsSpecs/index.html#WritesNumber">WritesNumber</a> 64 (<a href="../../operands/LineWordsSpecs/index.html#word_at">word_at</a> words 0) caps.bytes × <a href="../../operands/LineWordsSpecs/index.html#WritesNumber">WritesNumber</a> 64 (<a href="../../operands/LineWordsSpecs/index.html#word_at">word_at</a> words 1) caps.elements)
+<a href="../../grammar/HeadersSpecs/index.html#NamesLimiterAfter">NamesLimiterAfter</a> name words (Answers answers) = (codes "answers" ≡ name) × <a href="../../operands/LineWordsSpecs/index.html#WritesEach">WritesEach</a> <a href="../../operands/NamesSpecs/index.html#WritesAnswer">WritesAnswer</a> words answers.items
+<a href="../../grammar/HeadersSpecs/index.html#NamesLimiterAfter">NamesLimiterAfter</a> name words (Tenants line) = (codes "tenants" ≡ name) × ((length words ≡ 3)
+    × <a href="../../operands/LineWordsSpecs/index.html#WritesNumber">WritesNumber</a> 64 (<a href="../../operands/LineWordsSpecs/index.html#word_at">word_at</a> words 0) line.count × (1 ≤ line.count) × (line.count ≤ 1024)
+    × <a href="../../operands/LineWordsSpecs/index.html#WritesNumber">WritesNumber</a> 64 (<a href="../../operands/LineWordsSpecs/index.html#word_at">word_at</a> words 1) line.caps.bytes × <a href="../../operands/LineWordsSpecs/index.html#WritesNumber">WritesNumber</a> 64 (<a href="../../operands/LineWordsSpecs/index.html#word_at">word_at</a> words 2) line.caps.elements)
 
 -- the words after the first write what the region line says
 abbrev pub <b id="WritesRegion">WritesRegion</b> : <a href="../../operands/LineWordsSpecs/index.html#LineWords">LineWords</a> → RegionLine → Type 0
@@ -6682,7 +6554,7 @@ abbrev pub <b id="region_bytes">region_bytes</b> : RegionLine → List ℕ
 
 -- how many slots of each kind the header lines reserve: none without a line that says more
 abbrev pub <b id="slots_of">slots_of</b> : Header → SlotCounts
-<a href="../../grammar/HeadersSpecs/index.html#slots_of">slots_of</a> header = option_map_or (λ slots. slots) header.reserve <a href="../../machine/StateSpecs/index.html#no_slots">no_slots</a>
+<a href="../../grammar/HeadersSpecs/index.html#slots_of">slots_of</a> header = unwrap_or header.reserve <a href="../../machine/StateSpecs/index.html#no_slots">no_slots</a>
 
 -- the machine that each tenant of a script starts with: new, with the script&#x27;s meter and with its slots reserved
 abbrev pub <b id="tenant_start">tenant_start</b> : Header → <a href="../../machine/StateSpecs/index.html#State">State</a>
@@ -6696,9 +6568,8 @@ abbrev pub <b id="start_of">start_of</b> : Header → <a href="../../machine/Sta
     pub mod HeadersSpecs {}
     #[doc = r####"What a line says and adds to a script, the script that the lines of a text lead to, with the list of all its calls, and the bad lines by which a text isn't parsed.
 
-<pre><code>use Rattle.std.specs.Prelude.{◌≡◌, ◌&lt;◌, ℕ, ◌⊎◌, List, [], ◌∷◌, ◌++◌, Some, None, ◌==◌, codes, drop, map, ◌+◌, ⊤, length}
+<pre><code>use Rattle.std.specs.Prelude.{◌≡◌, ◌&lt;◌, ℕ, ◌⊎◌, List, [], ◌∷◌, ◌++◌, Some, None, ◌==◌, codes, drop, map, ◌+◌, ⊤, length, IsUtf8}
 use Rattle.std.specs.List.{slice_split}
-use Rattle.std.specs.Str.{IsUtf8}
 use Rattle.wasmi_machine.specs.declared.calls.Call.{Call}
 use Rattle.wasmi_grammar.specs.declared.{header.Header.Header, script.Line.Line, script.Script.Script, error.ParseError.ParseError}
 use Rattle.wasmi_grammar.specs.declared.script.Line.TheVariants.{<a href="../../meter/MeterSpecs/index.html#Meter">Meter</a>, Limiter, Region, Reserve, As, Call as Command}
@@ -6743,8 +6614,7 @@ pub record <b id="AddsPart">AddsPart</b> (old : Script) (named : ℕ) (new : Scr
 -- what a line says, added to the lines before: there is one `meter`, one `region` and one `reserve` line at most, one
 -- limiter line of any kind, and no region beside a pool
 abbrev pub <b id="AddsLine">AddsLine</b> : Script → Line → Script → Type 0
-<a href="../../grammar/LinesSpecs/index.html#AddsLine">AddsLine</a> old (<a href="../../meter/MeterSpecs/index.html#Meter">Meter</a> line) new =
-    <a href="../../grammar/LinesSpecs/index.html#AddsHeader">AddsHeader</a> old (old.header.meter ≡ None) (record old.header { meter = Some line }) new
+<a href="../../grammar/LinesSpecs/index.html#AddsLine">AddsLine</a> old (<a href="../../meter/MeterSpecs/index.html#Meter">Meter</a> line) new = <a href="../../grammar/LinesSpecs/index.html#AddsHeader">AddsHeader</a> old (old.header.meter ≡ None) (record old.header { meter = Some line }) new
 <a href="../../grammar/LinesSpecs/index.html#AddsLine">AddsLine</a> old (Limiter line) new =
     <a href="../../grammar/LinesSpecs/index.html#AddsHeader">AddsHeader</a> old ((old.header.limiter_line ≡ None) × <a href="../../grammar/HeadersSpecs/index.html#AreApart">AreApart</a> (Some line) old.header.region)
     (record old.header { limiter_line = Some line }) new
@@ -6819,8 +6689,7 @@ abbrev pub <b id="IsParseError">IsParseError</b> : List ℕ → ParseError → T
     pub mod LinesSpecs {}
     #[doc = r####"What a script says, however its lists are held, and the laws of texts: the script that a text writes says one thing, and a text has one first bad line or none.
 
-<pre><code>use Rattle.std.specs.Prelude.{◌≡◌, ℕ, List, Option, map}
-use Rattle.std.specs.Option.{option_map}
+<pre><code>use Rattle.std.specs.Prelude.{◌≡◌, ℕ, List, Option, map, option_map}
 use Rattle.wasmi_types.specs.declared.value.RefType.{RefType}
 use Rattle.wasmi_machine.specs.declared.{calls.Call.Call, slots.SlotCounts.SlotCounts}
 use Rattle.wasmi_machine.specs.declared.calls.Call.TheVariants.{Write, NewData, NewSegment}
@@ -7006,14 +6875,13 @@ abbrev pub <b id="QuietListsDecideReplies">QuietListsDecideReplies</b> : Type 0
 </code></pre>
 "####]
     pub mod DecidedSpecs {}
-    #[doc = r####"The outcome of a replay: the whole text that is printed of it, with what is held, the errors of reading, and the status by which a replay ends.
+    #[doc = r####"The outcome of a replay: the text that is printed of it, with what is held, the errors of reading, and its status.
 
-<pre><code>use Rattle.std.specs.Prelude.{ℕ, Result, Ok, Err, ◌&lt;◌, ⊤, List, Option, None, Some, IfSome, length, ◌≡◌, ◌≤◌, ◌⊎◌, [], ◌++◌, codes, flat_map}
+<pre><code>use Rattle.std.specs.Prelude.{ℕ, Result, Ok, Err, ◌&lt;◌, ⊤, List, Option, None, Some, IfSome, length, ◌≡◌, ◌≤◌, ◌⊎◌, [], ◌++◌, codes, flat_map, decimal}
 use Rattle.wasmi_script.specs.declared.{error.ReplayError.ReplayError, replaying.Status.Status, replaying.Held.Held, printing.Replayed.Replayed}
 use Rattle.wasmi_script.specs.declared.error.ReplayError.TheVariants.{Parse, TooLong, ReadFault}
 use Rattle.wasmi_script.specs.declared.replaying.Status.TheVariants.{Answered, BadScript, OutOfMemory, Fault}
 use Rattle.std.specs.Io.KnownBytes.{Appends}
-use Rattle.std.specs.Fmt.{decimal}
 use Rattle.std.specs.List.{zip, enumerate_from}
 use Rattle.wasmi_meter.specs.declared.limiter.Kind.TheVariants.{Bytes, Elements}
 use Rattle.wasmi_machine.specs.declared.{calls.Call.Call, calls.Reply.Reply}
@@ -7241,8 +7109,7 @@ abbrev pub <b id="IsReplayOnOne">IsReplayOnOne</b> : Option LimiterLine → Head
 abbrev pub <b id="new_pool">new_pool</b> : TenantsLine → <a href="../../machine/StateSpecs/index.html#State">State</a> → <a href="../../budget/PoolSpecs/index.html#PoolValue">PoolValue</a>
 <a href="../../script/ScriptRunsSpecs/index.html#new_pool">new_pool</a> line start = record { caps = line.caps; machines = replicate line.count (Some start) }
 
--- The parts are run one after another, each in one run of its tenant. The replies are those to the first part, and then
--- those to the later ones.
+-- the parts are run one after another, each in one run of its tenant, and the replies are those to the parts in turn
 abbrev pub <b id="AnswersParts">AnswersParts</b> : <a href="../../budget/PoolSpecs/index.html#PoolValue">PoolValue</a> → List <a href="../../grammar/PartsSpecs/index.html#TenantRun">TenantRun</a> → List Reply → <a href="../../budget/PoolSpecs/index.html#PoolValue">PoolValue</a> → Type 0
 <a href="../../script/ScriptRunsSpecs/index.html#AnswersParts">AnswersParts</a> pool [] replies pool&#x27; = (replies ≡ []) × (pool&#x27; ≡ pool)
 <a href="../../script/ScriptRunsSpecs/index.html#AnswersParts">AnswersParts</a> pool (part ∷ parts) replies pool&#x27; =
@@ -7268,8 +7135,7 @@ abbrev pub <b id="IsReplayOf">IsReplayOf</b> : Script → Ran → Type 0
     pub mod ScriptRunsSpecs {}
     #[doc = r####"The text of a reply, of its head and of its bytes, the text of a wording and its numbers, and the text of an error.
 
-<pre><code>use Rattle.std.specs.Prelude.{ℕ, List, [], ◌++◌, codes, flat_map, Option, None, Some}
-use Rattle.std.specs.Fmt.{decimal}
+<pre><code>use Rattle.std.specs.Prelude.{ℕ, List, [], ◌++◌, codes, flat_map, Option, None, Some, decimal}
 use Rattle.wasmi_types.specs.Trap.{<a href="../../types/TrapSpecs/index.html#code_message">code_message</a>}
 use Rattle.wasmi_meter.specs.Texts.{<a href="../../meter/TextsSpecs/index.html#fuel_error_text">fuel_error_text</a>, <a href="../../meter/TextsSpecs/index.html#memory_error_text">memory_error_text</a>, <a href="../../meter/TextsSpecs/index.html#table_error_text">table_error_text</a>}
 use Rattle.wasmi_typed.specs.Global.{<a href="../../typed/GlobalSpecs/index.html#global_error_text">global_error_text</a>}

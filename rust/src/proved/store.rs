@@ -1,5 +1,4 @@
-//! Linear memories and tables: their types, what they contain, and how they are made and grow, with
-//! a meter or without one.
+//! Linear memories and tables: their types, what they contain, and how they are made and grow.
 pub mod bulk {
     //! Fills, copies and initializations over a range of a memory's bytes or of a table's elements, for
     //! fuel. The bounds are tested first, then the fuel, also for no item. A write that is refused writes and
@@ -53,9 +52,8 @@ pub mod bulk {
         Ok(())
     }
 
-    /// Copies `len` items from `src` on over those from `dst` on. If the ranges overlap, the old items
-    /// are copied (core specification, memory.copy, table.copy). `outside` is the error if a range ends
-    /// past the list.
+    /// Copies `len` items from `src` on over those from `dst` on: the old ones if they overlap (core
+    /// specification, memory.copy, table.copy). `outside` is the error if a range ends past the list.
     ///
     /// # Contract
     ///
@@ -89,8 +87,7 @@ pub mod bulk {
     }
 
     /// Copies `len` items of a source, from `src` on, over those from `dst` on (core specification,
-    /// memory.copy and table.copy of two, memory.init). `outside` is the error if a range ends past its
-    /// list.
+    /// memory.copy, table.copy, memory.init). `outside` is the error if a range ends past its list.
     ///
     /// # Contract
     ///
@@ -159,9 +156,8 @@ pub mod bulk {
 }
 pub mod growth {
     //! What every creation and growth does with its limiter's answers and its meter, whatever it is
-    //! that grows; and what making and growing a memory decides, wherever its bytes lie.
-    //!
-    //! Own: upstream writes these steps in each function that grows something.
+    //! that grows; and what making and growing a memory decides, wherever its bytes lie. Own: upstream
+    //! writes these steps in each function that grows something.
 
     use crate::proved::meter::{
         Fuel, FuelError, LimiterError, MemoryError, ResourceLimiter, ResourceLimiterRef,
@@ -179,25 +175,21 @@ pub mod growth {
     ///
     /// # Errors
     ///
-    /// `denial` if the limiter says no; `refusal` if it returns an error.
+    /// `denial` if the limiter says no; `error` if it returns an error.
     ///
     /// # Contract
     ///
     /// ```text
-    /// ensures: Permits denial refusal answer result
+    /// ensures: Permits denial error answer result
     /// ```
     ///
     /// Definitions: [`Permits`](crate::specs::meter::AttemptSpecs#Permits).
     #[inline]
-    pub fn permission<E>(
-        answer: Result<bool, LimiterError>,
-        denial: E,
-        refusal: E,
-    ) -> Result<(), E> {
+    pub fn permission<E>(answer: Result<bool, LimiterError>, denial: E, error: E) -> Result<(), E> {
         match answer {
             Ok(true) => Ok(()),
             Ok(false) => Err(denial),
-            Err(_) => Err(refusal),
+            Err(_) => Err(error),
         }
     }
 
@@ -223,20 +215,18 @@ pub mod growth {
         /// ```
         fn out_of_fuel(required_fuel: u64) -> Self;
 
-        /// Notifies the limiter, if there is one, that a growth which it permitted failed with this
-        /// error.
+        /// Notifies the limiter, if any, that a growth which it permitted failed with this error.
         ///
         /// # Errors
         ///
-        /// The limiter's.
+        /// The limiter's. Without a limiter there is none.
         ///
         /// # Contract
         ///
         /// ```text
         /// ensures loan: KeepsLoan limiter.old limiter.new
-        /// ensures noticed: (optional_rules L.rules).noticed (lent_limiter limiter.old)
-        ///     (notice self.now) result
-        ///     (lent_limiter limiter.new)
+        /// ensures noticed: (optional_rules L.rules).noticed
+        ///     (lent_limiter limiter.old) (notice self.now) result (lent_limiter limiter.new)
         /// ```
         ///
         /// Definitions: [`KeepsLoan`](crate::specs::meter::LimiterSpecs#KeepsLoan), [`optional_rules`](crate::specs::meter::LimiterSpecs#optional_rules), [`lent_limiter`](crate::specs::meter::LimiterSpecs#lent_limiter).
@@ -303,8 +293,7 @@ pub mod growth {
     /// ensures loan: KeepsLoan limiter.old limiter.new
     /// ensures told: (notice_answer : NoticeAnswer)
     ///     × (optional_rules L.rules).noticed (lent_limiter limiter.old) (E.notice cause) notice_answer
-    ///     (lent_limiter limiter.new)
-    ///     × (result ≡ error_of_failure refusal cause notice_answer)
+    ///     (lent_limiter limiter.new) × (result ≡ error_of_failure refusal cause notice_answer)
     /// ```
     ///
     /// Definitions: [`KeepsLoan`](crate::specs::meter::LimiterSpecs#KeepsLoan), [`NoticeAnswer`](crate::specs::meter::LimiterSpecs#NoticeAnswer), [`optional_rules`](crate::specs::meter::LimiterSpecs#optional_rules), [`lent_limiter`](crate::specs::meter::LimiterSpecs#lent_limiter), [`error_of_failure`](crate::specs::meter::AttemptSpecs#error_of_failure).
@@ -352,8 +341,7 @@ pub mod growth {
     ///
     /// # Errors
     ///
-    /// In the order of the tests: [`MinimumSizeOverflow`](crate::MemoryError::MinimumSizeOverflow) if the minimum has 2^64 bytes or more;
-    /// [`ResourceLimiterDeniedAllocation`](crate::MemoryError::ResourceLimiterDeniedAllocation) if the limiter doesn't permit it.
+    /// In the order of the tests: [`MinimumSizeOverflow`](crate::MemoryError::MinimumSizeOverflow) if the minimum has 2^64 bytes or more; [`ResourceLimiterDeniedAllocation`](crate::MemoryError::ResourceLimiterDeniedAllocation) if the limiter doesn't permit it.
     ///
     /// # Contract
     ///
@@ -434,27 +422,21 @@ pub mod growth {
         }
         let paid = charge::<u8>(fuel, (size - old_size) as u64);
         if let Err(required_fuel) = paid {
-            return Err(tell(
-                limiter,
-                MemoryError::OutOfFuel { required_fuel },
-                MEMORY_DENIED,
-            ));
+            let cause = MemoryError::OutOfFuel { required_fuel };
+            return Err(tell(limiter, cause, MEMORY_DENIED));
         }
         Ok(())
     }
 }
 #[cfg(any(doc, test))]
 pub mod laws {
-    //! What holds of all memories and tables and of all their types. These functions do nothing: each
-    //! states a law as its contract.
+    //! What holds of all memories and tables and their types. Each function does nothing: it is a law.
 
     use crate::proved::store::memory::{LinearMemory, Region};
     use crate::proved::store::table::Table;
 
-    /// Every memory is valid, also one that was written to or has grown: its type is valid, and its
-    /// bytes are whole pages, as many as its type allows.
-    ///
-    /// Core specification, validity of memory instances.
+    /// Every memory is valid, also one that was written to or has grown: its type is valid, and it has
+    /// whole pages, as many as that allows. Core specification, validity of memory instances.
     ///
     /// # Contract
     ///
@@ -470,9 +452,7 @@ pub mod laws {
     }
 
     /// Every table is valid, also one that was written to or has grown: its type is valid, and it has
-    /// as many elements as that allows.
-    ///
-    /// Core specification, validity of table instances.
+    /// as many elements as that allows. Core specification, validity of table instances.
     ///
     /// # Contract
     ///
@@ -661,7 +641,6 @@ mod memory {
         }
 
         /// A growable buffer of bytes; `'r` is the lifetime of a borrowed buffer that they may lie in.
-        ///
         /// Upstream: `ByteBuffer` of `wasmi_core`'s module `memory`.
         pub type ByteBuffer<'r> = Buffer<&'r mut [u8]>;
 
@@ -737,8 +716,7 @@ mod memory {
             ///
             /// # Errors
             ///
-            /// [`OutOfSystemMemory`](crate::MemoryError::OutOfSystemMemory) if the bytes are owned and memory is refused; [`InvalidStaticBufferSize`](crate::MemoryError::InvalidStaticBufferSize)
-            /// if they are borrowed and the borrowed buffer is shorter.
+            /// [`OutOfSystemMemory`](crate::MemoryError::OutOfSystemMemory) if the bytes are owned and memory is refused; [`InvalidStaticBufferSize`](crate::MemoryError::InvalidStaticBufferSize) if they are borrowed and the borrowed buffer is shorter.
             ///
             /// # Panics
             ///
@@ -807,17 +785,14 @@ mod memory {
             ///
             /// # Errors
             ///
-            /// [`InvalidStaticBufferSize`](crate::MemoryError::InvalidStaticBufferSize) if the borrowed buffer is shorter. Then the loan has ended, and
-            /// its bytes are unchanged.
+            /// [`InvalidStaticBufferSize`](crate::MemoryError::InvalidStaticBufferSize) if the borrowed buffer is shorter. Then the loan has ended, and its bytes are unchanged.
             ///
             /// # Contract
             ///
             /// ```text
-            /// ensures ok: IfOk result
-            ///     (λ b. (fits_room (Lent region.entry.now) size ≡ true)
+            /// ensures ok: IfOk result (λ b. (fits_room (Lent region.entry.now) size ≡ true)
             ///     × (b ≡ zeros_in (Lent region.entry.now) size))
-            /// ensures err: IfErr result
-            ///     (λ e. (fits_room (Lent region.entry.now) size ≡ false)
+            /// ensures err: IfErr result (λ e. (fits_room (Lent region.entry.now) size ≡ false)
             ///     × (e ≡ MemoryError.InvalidStaticBufferSize))
             /// ```
             ///
@@ -897,7 +872,6 @@ mod memory {
         }
 
         /// The type of a linear memory: its address type, page size, minimum and optional maximum in pages.
-        ///
         /// Core specification, memory types. Upstream: `wasmi_core::MemoryType`.
         ///
         /// # Model
@@ -1043,8 +1017,6 @@ mod memory {
                     && is_no_looser(self.maximum, other.maximum)
             }
 
-            /// The type with another minimum.
-            ///
             /// # Contract
             ///
             /// ```text
@@ -1131,8 +1103,7 @@ mod memory {
                     size as u64 % u64::from(self.page_size()) == 0,
                     "the size is no number of whole pages"
                 );
-                let pages = self.pages_in(size).checked_add(additional)?;
-                self.size_of_pages(pages)
+                self.size_of_pages(self.pages_in(size).checked_add(additional)?)
             }
 
             /// The bytes of `pages` pages, if a memory of this type may have that many.
@@ -1140,8 +1111,7 @@ mod memory {
             /// # Contract
             ///
             /// ```text
-            /// ensures: MatchOption result
-            ///     (in_bounds self pages ≡ false)
+            /// ensures: MatchOption result (in_bounds self pages ≡ false)
             ///     (λ size. (in_bounds self pages ≡ true) × (size ≡ pages * page_bytes self.page))
             /// ```
             ///
@@ -1189,9 +1159,7 @@ mod memory {
             other.is_none_or(|most| own.is_some_and(|maximum| maximum <= most))
         }
 
-        /// Builds a [`MemoryType`] step by step.
-        ///
-        /// Upstream: `wasmi_core::MemoryTypeBuilder`.
+        /// Builds a [`MemoryType`] step by step. Upstream: `wasmi_core::MemoryTypeBuilder`.
         pub struct MemoryTypeBuilder {
             index: IndexType,
             page_size_log2: u8,
@@ -1289,10 +1257,8 @@ mod memory {
             /// # Contract
             ///
             /// ```text
-            /// ensures: MatchResult result
-            ///     (λ ty. (named_type self ≡ Some ty) × IsValid ty)
-            ///     (λ error. (error ≡ MemoryError.InvalidMemoryType)
-            ///     × ¬ (IsSomeAnd (named_type self) IsValid))
+            /// ensures: MatchResult result (λ ty. (named_type self ≡ Some ty) × IsValid ty)
+            ///     (λ e. (e ≡ MemoryError.InvalidMemoryType) × ¬ (IsSomeAnd (named_type self) IsValid))
             /// ```
             ///
             /// Definitions: [`named_type`](crate::specs::store::MemorySpecs#named_type), [`IsValid`](crate::specs::store::MemorySpecs#IsValid).
@@ -1350,9 +1316,8 @@ mod memory {
 
     /// A linear memory of whole pages; `'r` is the lifetime of a buffer that its bytes may lie in.
     ///
-    /// It is valid at any time: see [`laws::memories_are_valid`](crate::proved::store::laws::memories_are_valid).
-    ///
-    /// Core specification, memory instances. Upstream: `wasmi_core::Memory`.
+    /// It is valid at any time: see [`laws::memories_are_valid`](crate::proved::store::laws::memories_are_valid). Core specification, memory
+    /// instances. Upstream: `wasmi_core::Memory`.
     pub type Memory<'r> = LinearMemory<&'r mut [u8]>;
 
     impl<'r> LinearMemory<&'r mut [u8]> {
@@ -1360,9 +1325,7 @@ mod memory {
         ///
         /// # Errors
         ///
-        /// In the order of the tests: [`MinimumSizeOverflow`](crate::MemoryError::MinimumSizeOverflow) if the minimum has 2^64 bytes or more;
-        /// [`ResourceLimiterDeniedAllocation`](crate::MemoryError::ResourceLimiterDeniedAllocation) if the limiter doesn't permit it; [`OutOfSystemMemory`](crate::MemoryError::OutOfSystemMemory), of
-        /// which the limiter is notified.
+        /// In the order of the tests: [`MinimumSizeOverflow`](crate::MemoryError::MinimumSizeOverflow) if the minimum has 2^64 bytes or more; [`ResourceLimiterDeniedAllocation`](crate::MemoryError::ResourceLimiterDeniedAllocation) if the limiter doesn't permit it; [`OutOfSystemMemory`](crate::MemoryError::OutOfSystemMemory), of which the limiter is notified.
         ///
         /// # Contract
         ///
@@ -1388,14 +1351,11 @@ mod memory {
         }
 
         /// A memory of zeros at the front of a borrowed buffer, at the minimum of its type. It takes no
-        /// fuel and allocates nothing, and the bytes past the minimum stay as they are.
+        /// fuel and no memory, and the bytes past the minimum stay. After an error the loan has ended.
         ///
         /// # Errors
         ///
-        /// In the order of the tests: [`MinimumSizeOverflow`](crate::MemoryError::MinimumSizeOverflow) if the minimum has 2^64 bytes or more;
-        /// [`ResourceLimiterDeniedAllocation`](crate::MemoryError::ResourceLimiterDeniedAllocation) if the limiter doesn't permit it;
-        /// [`InvalidStaticBufferSize`](crate::MemoryError::InvalidStaticBufferSize) if the buffer is shorter than the minimum, of which the limiter is
-        /// notified. After an error the loan has ended, and the bytes of the buffer are unchanged.
+        /// In the order of the tests: [`MinimumSizeOverflow`](crate::MemoryError::MinimumSizeOverflow) if the minimum has 2^64 bytes or more; [`ResourceLimiterDeniedAllocation`](crate::MemoryError::ResourceLimiterDeniedAllocation) if the limiter doesn't permit it; [`InvalidStaticBufferSize`](crate::MemoryError::InvalidStaticBufferSize) if the region is shorter than the minimum, of which the limiter is notified. After an error the bytes of the region are unchanged.
         ///
         /// # Contract
         ///
@@ -1543,8 +1503,7 @@ mod memory {
         }
 
         /// Grows by `additional` pages of zeros, and returns the old size in pages. A growth by 0 pages
-        /// changes nothing and asks no limiter. Bytes of a borrowed buffer past the new size stay as
-        /// they are.
+        /// changes nothing and asks no limiter. Bytes of a borrowed buffer past the new size stay.
         ///
         /// # Errors
         ///
@@ -1568,11 +1527,11 @@ mod memory {
         /// ```text
         /// ensures loan: KeepsLoan limiter.old limiter.new
         /// ensures grown: GrowsMemory (optional_rules L.rules) additional
-        ///     (metered_value self.old (meter_at_entry fuel.entry) (lent_limiter limiter.old)) result
-        ///     (metered_value self.new (meter_at_exit fuel.exit) (lent_limiter limiter.new))
+        ///     (metered_value self.old (at_entry fuel.entry) (lent_limiter limiter.old)) result
+        ///     (metered_value self.new (at_exit fuel.exit) (lent_limiter limiter.new))
         /// ```
         ///
-        /// Definitions: [`KeepsLoan`](crate::specs::meter::LimiterSpecs#KeepsLoan), [`GrowsMemory`](crate::specs::store::MemorySpecs#GrowsMemory), [`optional_rules`](crate::specs::meter::LimiterSpecs#optional_rules), [`metered_value`](crate::specs::store::GrowthSpecs#metered_value), [`meter_at_entry`](crate::specs::meter::MeterSpecs#meter_at_entry), [`lent_limiter`](crate::specs::meter::LimiterSpecs#lent_limiter), [`meter_at_exit`](crate::specs::meter::MeterSpecs#meter_at_exit).
+        /// Definitions: [`KeepsLoan`](crate::specs::meter::LimiterSpecs#KeepsLoan), [`GrowsMemory`](crate::specs::store::MemorySpecs#GrowsMemory), [`optional_rules`](crate::specs::meter::LimiterSpecs#optional_rules), [`metered_value`](crate::specs::store::GrowthSpecs#metered_value), [`at_entry`](crate::specs::meter::MeterSpecs#meter_at_entry), [`lent_limiter`](crate::specs::meter::LimiterSpecs#lent_limiter), [`at_exit`](crate::specs::meter::MeterSpecs#meter_at_exit).
         ///
         /// `L` is the type of the limiter, a [`ResourceLimiter`](crate::machine::ResourceLimiter#contract).
         #[inline]
@@ -1667,8 +1626,7 @@ mod memory {
         ///
         /// ```text
         /// ensures ok: OnOk result (at self.now.bytes offset (length buffer.old) ≡ Some buffer.new)
-        /// ensures err: IfErr result
-        ///     (λ error. (error ≡ MemoryError.OutOfBoundsAccess)
+        /// ensures err: IfErr result (λ error. (error ≡ MemoryError.OutOfBoundsAccess)
         ///     × (at self.now.bytes offset (length buffer.old) ≡ None) × (buffer.new ≡ buffer.old))
         /// ```
         ///
@@ -1697,23 +1655,20 @@ mod memory {
         }
 
         /// Fills `len` bytes from `dst` on with a value. It is charged as a table's `fill`, by bytes.
-        ///
         /// Core specification, memory.fill.
         ///
         /// # Errors
         ///
-        /// In the order of the tests: [`OutOfBoundsAccess`](crate::MemoryError::OutOfBoundsAccess) if they end past the memory; [`OutOfFuel`](crate::MemoryError::OutOfFuel),
-        /// which is tested also if no byte is filled. Then no byte is written, and no fuel taken.
+        /// In the order of the tests: [`OutOfBoundsAccess`](crate::MemoryError::OutOfBoundsAccess) if a range ends past its memory or segment; [`OutOfFuel`](crate::MemoryError::OutOfFuel), which is tested also if no byte is written. Then no byte is written, and no fuel taken.
         ///
         /// # Contract
         ///
         /// ```text
         /// ensures: WritesMemoryRange (byte_filling_of dst value len)
-        ///     (metered self.old (meter_at_entry fuel.entry)) result
-        ///     (metered self.new (meter_at_exit fuel.exit))
+        ///     (metered self.old (at_entry fuel.entry)) result (metered self.new (at_exit fuel.exit))
         /// ```
         ///
-        /// Definitions: [`WritesMemoryRange`](crate::specs::store::MemorySpecs#WritesMemoryRange), [`byte_filling_of`](crate::specs::store::MemorySpecs#byte_filling_of), [`metered`](crate::specs::store::GrowthSpecs#metered), [`meter_at_entry`](crate::specs::meter::MeterSpecs#meter_at_entry), [`meter_at_exit`](crate::specs::meter::MeterSpecs#meter_at_exit).
+        /// Definitions: [`WritesMemoryRange`](crate::specs::store::MemorySpecs#WritesMemoryRange), [`byte_filling_of`](crate::specs::store::MemorySpecs#byte_filling_of), [`metered`](crate::specs::store::GrowthSpecs#metered), [`at_entry`](crate::specs::meter::MeterSpecs#meter_at_entry), [`at_exit`](crate::specs::meter::MeterSpecs#meter_at_exit).
         #[inline]
         pub fn fill(
             &mut self,
@@ -1751,22 +1706,20 @@ mod memory {
         }
 
         /// Copies `len` bytes from `src` on over those from `dst` on: the old ones if they overlap.
-        ///
         /// Core specification, memory.copy within a memory.
         ///
         /// # Errors
         ///
-        /// Those of `fill`, if a range ends past the memory.
+        /// In the order of the tests: [`OutOfBoundsAccess`](crate::MemoryError::OutOfBoundsAccess) if a range ends past its memory or segment; [`OutOfFuel`](crate::MemoryError::OutOfFuel), which is tested also if no byte is written. Then no byte is written, and no fuel taken.
         ///
         /// # Contract
         ///
         /// ```text
         /// ensures: WritesMemoryRange (byte_copy_of dst src len self.old.bytes)
-        ///     (metered self.old (meter_at_entry fuel.entry)) result
-        ///     (metered self.new (meter_at_exit fuel.exit))
+        ///     (metered self.old (at_entry fuel.entry)) result (metered self.new (at_exit fuel.exit))
         /// ```
         ///
-        /// Definitions: [`WritesMemoryRange`](crate::specs::store::MemorySpecs#WritesMemoryRange), [`byte_copy_of`](crate::specs::store::MemorySpecs#byte_copy_of), [`metered`](crate::specs::store::GrowthSpecs#metered), [`meter_at_entry`](crate::specs::meter::MeterSpecs#meter_at_entry), [`meter_at_exit`](crate::specs::meter::MeterSpecs#meter_at_exit).
+        /// Definitions: [`WritesMemoryRange`](crate::specs::store::MemorySpecs#WritesMemoryRange), [`byte_copy_of`](crate::specs::store::MemorySpecs#byte_copy_of), [`metered`](crate::specs::store::GrowthSpecs#metered), [`at_entry`](crate::specs::meter::MeterSpecs#meter_at_entry), [`at_exit`](crate::specs::meter::MeterSpecs#meter_at_exit).
         #[inline]
         pub fn copy_within(
             &mut self,
@@ -1804,22 +1757,21 @@ mod memory {
         }
 
         /// Copies `len` bytes of another memory, from `src` on, over those of a memory from `dst` on.
-        ///
         /// Core specification, memory.copy of two memories.
         ///
         /// # Errors
         ///
-        /// Those of `fill`, if a range ends past its memory.
+        /// In the order of the tests: [`OutOfBoundsAccess`](crate::MemoryError::OutOfBoundsAccess) if a range ends past its memory or segment; [`OutOfFuel`](crate::MemoryError::OutOfFuel), which is tested also if no byte is written. Then no byte is written, and no fuel taken.
         ///
         /// # Contract
         ///
         /// ```text
         /// ensures: WritesMemoryRange (byte_copy_of dst src len src_memory.now.bytes)
-        ///     (metered dst_memory.old (meter_at_entry fuel.entry)) result
-        ///     (metered dst_memory.new (meter_at_exit fuel.exit))
+        ///     (metered dst_memory.old (at_entry fuel.entry)) result
+        ///     (metered dst_memory.new (at_exit fuel.exit))
         /// ```
         ///
-        /// Definitions: [`WritesMemoryRange`](crate::specs::store::MemorySpecs#WritesMemoryRange), [`byte_copy_of`](crate::specs::store::MemorySpecs#byte_copy_of), [`metered`](crate::specs::store::GrowthSpecs#metered), [`meter_at_entry`](crate::specs::meter::MeterSpecs#meter_at_entry), [`meter_at_exit`](crate::specs::meter::MeterSpecs#meter_at_exit).
+        /// Definitions: [`WritesMemoryRange`](crate::specs::store::MemorySpecs#WritesMemoryRange), [`byte_copy_of`](crate::specs::store::MemorySpecs#byte_copy_of), [`metered`](crate::specs::store::GrowthSpecs#metered), [`at_entry`](crate::specs::meter::MeterSpecs#meter_at_entry), [`at_exit`](crate::specs::meter::MeterSpecs#meter_at_exit).
         #[inline]
         pub fn copy<S: Region>(
             dst_memory: &mut LinearMemory<R>,
@@ -1860,23 +1812,20 @@ mod memory {
         }
 
         /// Copies `len` bytes of a data segment, from `src` on, over the bytes from `dst` on. A segment
-        /// that was dropped has no bytes.
-        ///
-        /// Core specification, memory.init.
+        /// that was dropped has no bytes. Core specification, memory.init.
         ///
         /// # Errors
         ///
-        /// Those of `fill`, if a range ends past the segment or the memory.
+        /// In the order of the tests: [`OutOfBoundsAccess`](crate::MemoryError::OutOfBoundsAccess) if a range ends past its memory or segment; [`OutOfFuel`](crate::MemoryError::OutOfFuel), which is tested also if no byte is written. Then no byte is written, and no fuel taken.
         ///
         /// # Contract
         ///
         /// ```text
         /// ensures: WritesMemoryRange (byte_copy_of dst src len segment.now)
-        ///     (metered self.old (meter_at_entry fuel.entry)) result
-        ///     (metered self.new (meter_at_exit fuel.exit))
+        ///     (metered self.old (at_entry fuel.entry)) result (metered self.new (at_exit fuel.exit))
         /// ```
         ///
-        /// Definitions: [`WritesMemoryRange`](crate::specs::store::MemorySpecs#WritesMemoryRange), [`byte_copy_of`](crate::specs::store::MemorySpecs#byte_copy_of), [`metered`](crate::specs::store::GrowthSpecs#metered), [`meter_at_entry`](crate::specs::meter::MeterSpecs#meter_at_entry), [`meter_at_exit`](crate::specs::meter::MeterSpecs#meter_at_exit).
+        /// Definitions: [`WritesMemoryRange`](crate::specs::store::MemorySpecs#WritesMemoryRange), [`byte_copy_of`](crate::specs::store::MemorySpecs#byte_copy_of), [`metered`](crate::specs::store::GrowthSpecs#metered), [`at_entry`](crate::specs::meter::MeterSpecs#meter_at_entry), [`at_exit`](crate::specs::meter::MeterSpecs#meter_at_exit).
         #[inline]
         pub fn init(
             &mut self,
@@ -1945,14 +1894,13 @@ pub mod range {
     ///
     /// # Errors
     ///
-    /// [`OutOfBoundsAccess`](crate::MemoryError::OutOfBoundsAccess) if they end past the bytes; then nothing is copied.
+    /// [`OutOfBoundsAccess`](crate::MemoryError::OutOfBoundsAccess) if they end past the memory; then nothing is copied.
     ///
     /// # Contract
     ///
     /// ```text
     /// ensures ok: OnOk result (at bytes.now offset (length buffer.old) ≡ Some buffer.new)
-    /// ensures err: IfErr result
-    ///     (λ error. (error ≡ MemoryError.OutOfBoundsAccess)
+    /// ensures err: IfErr result (λ error. (error ≡ MemoryError.OutOfBoundsAccess)
     ///     × (at bytes.now offset (length buffer.old) ≡ None) × (buffer.new ≡ buffer.old))
     /// ```
     ///
@@ -1971,14 +1919,13 @@ pub mod range {
     ///
     /// # Errors
     ///
-    /// [`OutOfBoundsAccess`](crate::MemoryError::OutOfBoundsAccess) if they would end past the bytes; then nothing is written.
+    /// [`OutOfBoundsAccess`](crate::MemoryError::OutOfBoundsAccess) if they would end past the memory; then nothing is written.
     ///
     /// # Contract
     ///
     /// ```text
     /// ensures ok: OnOk result (overwrite bytes.old offset buffer.now ≡ Some bytes.new)
-    /// ensures err: IfErr result
-    ///     (λ error. (error ≡ MemoryError.OutOfBoundsAccess)
+    /// ensures err: IfErr result (λ error. (error ≡ MemoryError.OutOfBoundsAccess)
     ///     × (overwrite bytes.old offset buffer.now ≡ None) × (bytes.new ≡ bytes.old))
     /// ensures len: length bytes.new ≡ length bytes.old
     /// ```
@@ -2036,8 +1983,7 @@ pub mod range {
     /// An item of a list of which a part can be copied over another part.
     pub trait Chunk: Copy {
         /// Copies `len` items, at most `CHUNK`, from `src` on over those from `dst` on. Each
-        /// implementation has a buffer of its own type. LLVM drops it: the two copies become one
-        /// `memmove`.
+        /// implementation has a buffer of its type. LLVM drops it: the two copies become one `memmove`.
         ///
         /// # Contract
         ///
@@ -2127,9 +2073,8 @@ mod table {
         use crate::rattle::Vec;
         use core::fmt;
 
-        /// Why an element segment cannot be made.
-        ///
-        /// Own: upstream panics above 2^32 - 1 items, and ends the process if it is out of memory.
+        /// Why an element segment cannot be made. Own: upstream panics above 2^32 - 1 items, and ends the
+        /// process if it is out of memory.
         #[derive(Debug, PartialEq, Eq)]
         #[non_exhaustive]
         pub enum SegmentError {
@@ -2175,9 +2120,8 @@ mod table {
 
         impl core::error::Error for SegmentError {}
 
-        /// References of one type, at most 2^32 - 1 of them.
-        ///
-        /// Core specification, element instances. Upstream: `wasmi_core::ElementSegment`.
+        /// References of one type, at most 2^32 - 1 of them. Core specification, element instances.
+        /// Upstream: `wasmi_core::ElementSegment`.
         ///
         /// # Model
         ///
@@ -2193,9 +2137,8 @@ mod table {
             pub(crate) items: Vec<RawRef>,
         }
 
-        /// A shared reference to the items of an element segment, with their type.
-        ///
-        /// Upstream: `wasmi_core::ElementSegmentRef`.
+        /// A shared reference to the items of an element segment, with their type. Upstream:
+        /// `wasmi_core::ElementSegmentRef`.
         ///
         /// # Contract
         ///
@@ -2212,13 +2155,12 @@ mod table {
         const MAX_ITEMS: usize = 4_294_967_295;
 
         impl ElementSegment {
-            /// A segment of references of a type, read from an iterator as `read` does.
-            ///
-            /// Upstream: `ElementSegment::new`, which panics above 2^32 - 1 items.
+            /// A segment of references of a type, read from an iterator as `read` does. Upstream:
+            /// `ElementSegment::new`, which panics above 2^32 - 1 items.
             ///
             /// # Errors
             ///
-            /// Those of `read`.
+            /// [`TooManyItems`](crate::machine::SegmentError::TooManyItems) at item 2^32; [`OutOfSystemMemory`](crate::machine::SegmentError::OutOfSystemMemory) at the item for which memory is refused.
             ///
             /// # Contract
             ///
@@ -2240,9 +2182,8 @@ mod table {
             }
 
             /// Reads references of a type up to the first `None`, which counts as the end. It reads at most
-            /// 2^32 items, and none after the end or after an error.
-            ///
-            /// Own: `new` takes its iterator by value, so its contract can't say what is left of it.
+            /// 2^32 items, and none after the end or after an error. Own: `new` takes its iterator by
+            /// value, so its contract can't say what is left of it.
             ///
             /// # Errors
             ///
@@ -2418,9 +2359,8 @@ mod table {
         use crate::proved::store::memory::is_no_looser;
         use crate::proved::types::{IndexType, RefType};
 
-        /// The type of a table: its index and element types, minimum and optional maximum in elements.
-        ///
-        /// Core specification, table types. Upstream: `wasmi_core::TableType`.
+        /// The type of a table: its index and element types, minimum and optional maximum in elements. Core
+        /// specification, table types. Upstream: `wasmi_core::TableType`.
         ///
         /// # Model
         ///
@@ -2593,10 +2533,8 @@ mod table {
             /// # Contract
             ///
             /// ```text
-            /// ensures: MatchResult result
-            ///     (λ _. same_type self.element ty ≡ true)
-            ///     (λ error. (error ≡ TableError.ElementTypeMismatch)
-            ///     × (same_type self.element ty ≡ false))
+            /// ensures: MatchResult result (λ _. same_type self.element ty ≡ true)
+            ///     (λ e. (e ≡ TableError.ElementTypeMismatch) × (same_type self.element ty ≡ false))
             /// ```
             ///
             /// Definitions: [`same_type`](crate::specs::store::TableSpecs#same_type).
@@ -2608,8 +2546,6 @@ mod table {
                 Ok(())
             }
 
-            /// The type with another minimum.
-            ///
             /// # Contract
             ///
             /// ```text
@@ -2629,8 +2565,7 @@ mod table {
             /// # Contract
             ///
             /// ```text
-            /// ensures: MatchOption result
-            ///     (is_indexable self (size + delta) ≡ false)
+            /// ensures: MatchOption result (is_indexable self (size + delta) ≡ false)
             ///     (λ grown. (is_indexable self (size + delta) ≡ true) × (grown ≡ size + delta))
             /// ```
             ///
@@ -2725,9 +2660,8 @@ mod table {
     /// nothing is charged. The forms whose name ends in `_metered` take one that isn't optional. If a
     /// host chooses no other costs, a unit of fuel pays for 64 bytes, and an element has 4 bytes.
     ///
-    /// It is valid at any time: see [`laws::tables_are_valid`](crate::proved::store::laws::tables_are_valid).
-    ///
-    /// Core specification, table instances. Upstream: `wasmi_core::Table`.
+    /// It is valid at any time: see [`laws::tables_are_valid`](crate::proved::store::laws::tables_are_valid). Core specification, table
+    /// instances. Upstream: `wasmi_core::Table`.
     ///
     /// # Model
     ///
@@ -2746,15 +2680,11 @@ mod table {
     }
 
     impl Table {
-        /// A table at the minimum of its type, each element of which is the given reference. It takes
-        /// no fuel.
+        /// A table of one reference, at the minimum of its type. It takes no fuel.
         ///
         /// # Errors
         ///
-        /// In the order of the tests: [`ElementTypeMismatch`](crate::TableError::ElementTypeMismatch) if the reference is of another type;
-        /// [`MinimumSizeOverflow`](crate::TableError::MinimumSizeOverflow) if `usize` has 32 bits and the minimum more;
-        /// [`ResourceLimiterDeniedAllocation`](crate::TableError::ResourceLimiterDeniedAllocation) if the limiter doesn't permit it; [`OutOfSystemMemory`](crate::TableError::OutOfSystemMemory), of
-        /// which the limiter is notified.
+        /// In the order of the tests: [`ElementTypeMismatch`](crate::TableError::ElementTypeMismatch) if the reference is of another type; [`MinimumSizeOverflow`](crate::TableError::MinimumSizeOverflow) if `usize` has 32 bits and the minimum more; [`ResourceLimiterDeniedAllocation`](crate::TableError::ResourceLimiterDeniedAllocation) if the limiter doesn't permit it; [`OutOfSystemMemory`](crate::TableError::OutOfSystemMemory), of which the limiter is notified.
         ///
         /// # Contract
         ///
@@ -2823,7 +2753,7 @@ mod table {
         ///
         /// # Errors
         ///
-        /// `AllocError` if the memory is refused. Then no more is reserved.
+        /// `AllocError` if memory for some of it is refused; then no more is reserved.
         ///
         /// # Contract
         ///
@@ -2900,11 +2830,11 @@ mod table {
         /// ```text
         /// ensures loan: KeepsLoan limiter.old limiter.new
         /// ensures grown: GrowsTable (optional_rules L.rules) delta init
-        ///     (metered_value self.old (meter_at_entry fuel.entry) (lent_limiter limiter.old)) result
-        ///     (metered_value self.new (meter_at_exit fuel.exit) (lent_limiter limiter.new))
+        ///     (metered_value self.old (at_entry fuel.entry) (lent_limiter limiter.old)) result
+        ///     (metered_value self.new (at_exit fuel.exit) (lent_limiter limiter.new))
         /// ```
         ///
-        /// Definitions: [`KeepsLoan`](crate::specs::meter::LimiterSpecs#KeepsLoan), [`GrowsTable`](crate::specs::store::TableSpecs#GrowsTable), [`optional_rules`](crate::specs::meter::LimiterSpecs#optional_rules), [`metered_value`](crate::specs::store::GrowthSpecs#metered_value), [`meter_at_entry`](crate::specs::meter::MeterSpecs#meter_at_entry), [`lent_limiter`](crate::specs::meter::LimiterSpecs#lent_limiter), [`meter_at_exit`](crate::specs::meter::MeterSpecs#meter_at_exit).
+        /// Definitions: [`KeepsLoan`](crate::specs::meter::LimiterSpecs#KeepsLoan), [`GrowsTable`](crate::specs::store::TableSpecs#GrowsTable), [`optional_rules`](crate::specs::meter::LimiterSpecs#optional_rules), [`metered_value`](crate::specs::store::GrowthSpecs#metered_value), [`at_entry`](crate::specs::meter::MeterSpecs#meter_at_entry), [`lent_limiter`](crate::specs::meter::LimiterSpecs#lent_limiter), [`at_exit`](crate::specs::meter::MeterSpecs#meter_at_exit).
         ///
         /// `L` is the type of the limiter, a [`ResourceLimiter`](crate::machine::ResourceLimiter#contract).
         #[inline]
@@ -3001,11 +2931,11 @@ mod table {
         /// ```text
         /// ensures loan: KeepsLoan limiter.old limiter.new
         /// ensures grown: GrowsTableRaw (optional_rules L.rules) delta init
-        ///     (metered_value self.old (meter_at_entry fuel.entry) (lent_limiter limiter.old)) result
-        ///     (metered_value self.new (meter_at_exit fuel.exit) (lent_limiter limiter.new))
+        ///     (metered_value self.old (at_entry fuel.entry) (lent_limiter limiter.old)) result
+        ///     (metered_value self.new (at_exit fuel.exit) (lent_limiter limiter.new))
         /// ```
         ///
-        /// Definitions: [`KeepsLoan`](crate::specs::meter::LimiterSpecs#KeepsLoan), [`GrowsTableRaw`](crate::specs::store::TableSpecs#GrowsTableRaw), [`optional_rules`](crate::specs::meter::LimiterSpecs#optional_rules), [`metered_value`](crate::specs::store::GrowthSpecs#metered_value), [`meter_at_entry`](crate::specs::meter::MeterSpecs#meter_at_entry), [`lent_limiter`](crate::specs::meter::LimiterSpecs#lent_limiter), [`meter_at_exit`](crate::specs::meter::MeterSpecs#meter_at_exit).
+        /// Definitions: [`KeepsLoan`](crate::specs::meter::LimiterSpecs#KeepsLoan), [`GrowsTableRaw`](crate::specs::store::TableSpecs#GrowsTableRaw), [`optional_rules`](crate::specs::meter::LimiterSpecs#optional_rules), [`metered_value`](crate::specs::store::GrowthSpecs#metered_value), [`at_entry`](crate::specs::meter::MeterSpecs#meter_at_entry), [`lent_limiter`](crate::specs::meter::LimiterSpecs#lent_limiter), [`at_exit`](crate::specs::meter::MeterSpecs#meter_at_exit).
         ///
         /// `L` is the type of the limiter, a [`ResourceLimiter`](crate::machine::ResourceLimiter#contract).
         #[inline]
@@ -3112,8 +3042,7 @@ mod table {
         ///
         /// # Errors
         ///
-        /// In the order of the tests: [`ElementTypeMismatch`](crate::TableError::ElementTypeMismatch) if the reference is of another type;
-        /// [`SetOutOfBounds`](crate::TableError::SetOutOfBounds) past the end.
+        /// In the order of the tests: [`ElementTypeMismatch`](crate::TableError::ElementTypeMismatch) if the reference is of another type; [`SetOutOfBounds`](crate::TableError::SetOutOfBounds) past the end.
         ///
         /// # Contract
         ///
@@ -3156,18 +3085,16 @@ mod table {
         ///
         /// # Errors
         ///
-        /// In the order of the tests: [`ElementTypeMismatch`](crate::TableError::ElementTypeMismatch) if the items are of another type;
-        /// [`InitOutOfBounds`](crate::TableError::InitOutOfBounds) if a range ends past the segment or the table; [`OutOfFuel`](crate::TableError::OutOfFuel).
+        /// In the order of the tests: [`ElementTypeMismatch`](crate::TableError::ElementTypeMismatch) if the items are of another type; [`InitOutOfBounds`](crate::TableError::InitOutOfBounds) if a range ends past the segment or the table; [`OutOfFuel`](crate::TableError::OutOfFuel).
         ///
         /// # Contract
         ///
         /// ```text
         /// ensures: WritesTable (initialization_of dst src len (segment_of element.entry))
-        ///     (metered self.old (meter_at_entry fuel.entry)) result
-        ///     (metered self.new (meter_at_exit fuel.exit))
+        ///     (metered self.old (at_entry fuel.entry)) result (metered self.new (at_exit fuel.exit))
         /// ```
         ///
-        /// Definitions: [`WritesTable`](crate::specs::store::TableSpecs#WritesTable), [`initialization_of`](crate::specs::store::TableSpecs#initialization_of), [`segment_of`](crate::specs::store::SegmentSpecs#segment_of), [`metered`](crate::specs::store::GrowthSpecs#metered), [`meter_at_entry`](crate::specs::meter::MeterSpecs#meter_at_entry), [`meter_at_exit`](crate::specs::meter::MeterSpecs#meter_at_exit).
+        /// Definitions: [`WritesTable`](crate::specs::store::TableSpecs#WritesTable), [`initialization_of`](crate::specs::store::TableSpecs#initialization_of), [`segment_of`](crate::specs::store::SegmentSpecs#segment_of), [`metered`](crate::specs::store::GrowthSpecs#metered), [`at_entry`](crate::specs::meter::MeterSpecs#meter_at_entry), [`at_exit`](crate::specs::meter::MeterSpecs#meter_at_exit).
         #[inline]
         pub fn init(
             &mut self,
@@ -3212,18 +3139,17 @@ mod table {
         ///
         /// # Errors
         ///
-        /// In the order of the tests: [`ElementTypeMismatch`](crate::TableError::ElementTypeMismatch) if the types differ; [`CopyOutOfBounds`](crate::TableError::CopyOutOfBounds) if a
-        /// range ends past its table; [`OutOfFuel`](crate::TableError::OutOfFuel), which is tested also if no element is copied.
+        /// In the order of the tests: [`ElementTypeMismatch`](crate::TableError::ElementTypeMismatch) if the types differ; [`CopyOutOfBounds`](crate::TableError::CopyOutOfBounds) if a range ends past its table; [`OutOfFuel`](crate::TableError::OutOfFuel), which is tested also if no element is copied.
         ///
         /// # Contract
         ///
         /// ```text
         /// ensures: WritesTable (copy_of dst src len src_table.now)
-        ///     (metered dst_table.old (meter_at_entry fuel.entry)) result
-        ///     (metered dst_table.new (meter_at_exit fuel.exit))
+        ///     (metered dst_table.old (at_entry fuel.entry)) result
+        ///     (metered dst_table.new (at_exit fuel.exit))
         /// ```
         ///
-        /// Definitions: [`WritesTable`](crate::specs::store::TableSpecs#WritesTable), [`copy_of`](crate::specs::store::TableSpecs#copy_of), [`metered`](crate::specs::store::GrowthSpecs#metered), [`meter_at_entry`](crate::specs::meter::MeterSpecs#meter_at_entry), [`meter_at_exit`](crate::specs::meter::MeterSpecs#meter_at_exit).
+        /// Definitions: [`WritesTable`](crate::specs::store::TableSpecs#WritesTable), [`copy_of`](crate::specs::store::TableSpecs#copy_of), [`metered`](crate::specs::store::GrowthSpecs#metered), [`at_entry`](crate::specs::meter::MeterSpecs#meter_at_entry), [`at_exit`](crate::specs::meter::MeterSpecs#meter_at_exit).
         #[inline]
         pub fn copy(
             dst_table: &mut Table,
@@ -3270,18 +3196,16 @@ mod table {
         ///
         /// # Errors
         ///
-        /// In the order of the tests: [`CopyOutOfBounds`](crate::TableError::CopyOutOfBounds) if a range ends past the table; [`OutOfFuel`](crate::TableError::OutOfFuel),
-        /// which is tested also if no element is copied.
+        /// In the order of the tests: [`CopyOutOfBounds`](crate::TableError::CopyOutOfBounds) if a range ends past the table; [`OutOfFuel`](crate::TableError::OutOfFuel), which is tested also if no element is copied.
         ///
         /// # Contract
         ///
         /// ```text
         /// ensures: WritesTable (copy_of dst src len self.old)
-        ///     (metered self.old (meter_at_entry fuel.entry)) result
-        ///     (metered self.new (meter_at_exit fuel.exit))
+        ///     (metered self.old (at_entry fuel.entry)) result (metered self.new (at_exit fuel.exit))
         /// ```
         ///
-        /// Definitions: [`WritesTable`](crate::specs::store::TableSpecs#WritesTable), [`copy_of`](crate::specs::store::TableSpecs#copy_of), [`metered`](crate::specs::store::GrowthSpecs#metered), [`meter_at_entry`](crate::specs::meter::MeterSpecs#meter_at_entry), [`meter_at_exit`](crate::specs::meter::MeterSpecs#meter_at_exit).
+        /// Definitions: [`WritesTable`](crate::specs::store::TableSpecs#WritesTable), [`copy_of`](crate::specs::store::TableSpecs#copy_of), [`metered`](crate::specs::store::GrowthSpecs#metered), [`at_entry`](crate::specs::meter::MeterSpecs#meter_at_entry), [`at_exit`](crate::specs::meter::MeterSpecs#meter_at_exit).
         #[inline]
         pub fn copy_within(
             &mut self,
@@ -3329,11 +3253,10 @@ mod table {
         ///
         /// ```text
         /// ensures: WritesTable (filling_of dst val len)
-        ///     (metered self.old (meter_at_entry fuel.entry)) result
-        ///     (metered self.new (meter_at_exit fuel.exit))
+        ///     (metered self.old (at_entry fuel.entry)) result (metered self.new (at_exit fuel.exit))
         /// ```
         ///
-        /// Definitions: [`WritesTable`](crate::specs::store::TableSpecs#WritesTable), [`filling_of`](crate::specs::store::TableSpecs#filling_of), [`metered`](crate::specs::store::GrowthSpecs#metered), [`meter_at_entry`](crate::specs::meter::MeterSpecs#meter_at_entry), [`meter_at_exit`](crate::specs::meter::MeterSpecs#meter_at_exit).
+        /// Definitions: [`WritesTable`](crate::specs::store::TableSpecs#WritesTable), [`filling_of`](crate::specs::store::TableSpecs#filling_of), [`metered`](crate::specs::store::GrowthSpecs#metered), [`at_entry`](crate::specs::meter::MeterSpecs#meter_at_entry), [`at_exit`](crate::specs::meter::MeterSpecs#meter_at_exit).
         #[inline]
         pub fn fill(
             &mut self,
@@ -3376,18 +3299,16 @@ mod table {
         ///
         /// # Errors
         ///
-        /// In the order of the tests: [`FillOutOfBounds`](crate::TableError::FillOutOfBounds) if they end past the table; [`OutOfFuel`](crate::TableError::OutOfFuel), which
-        /// is tested also if no element is filled.
+        /// In the order of the tests: [`FillOutOfBounds`](crate::TableError::FillOutOfBounds) if they end past the table; [`OutOfFuel`](crate::TableError::OutOfFuel), which is tested also if no element is filled.
         ///
         /// # Contract
         ///
         /// ```text
         /// ensures: WritesTable (raw_filling_of dst val len)
-        ///     (metered self.old (meter_at_entry fuel.entry)) result
-        ///     (metered self.new (meter_at_exit fuel.exit))
+        ///     (metered self.old (at_entry fuel.entry)) result (metered self.new (at_exit fuel.exit))
         /// ```
         ///
-        /// Definitions: [`WritesTable`](crate::specs::store::TableSpecs#WritesTable), [`raw_filling_of`](crate::specs::store::TableSpecs#raw_filling_of), [`metered`](crate::specs::store::GrowthSpecs#metered), [`meter_at_entry`](crate::specs::meter::MeterSpecs#meter_at_entry), [`meter_at_exit`](crate::specs::meter::MeterSpecs#meter_at_exit).
+        /// Definitions: [`WritesTable`](crate::specs::store::TableSpecs#WritesTable), [`raw_filling_of`](crate::specs::store::TableSpecs#raw_filling_of), [`metered`](crate::specs::store::GrowthSpecs#metered), [`at_entry`](crate::specs::meter::MeterSpecs#meter_at_entry), [`at_exit`](crate::specs::meter::MeterSpecs#meter_at_exit).
         #[inline]
         pub fn fill_raw(
             &mut self,

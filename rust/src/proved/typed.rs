@@ -7,9 +7,7 @@ mod global {
     use crate::proved::types::ValType;
     use core::fmt;
 
-    /// Why a global variable was not written.
-    ///
-    /// Upstream: `wasmi_core::GlobalError`.
+    /// Why a global variable was not written. Upstream: `wasmi_core::GlobalError`.
     #[derive(Debug, PartialEq, Eq)]
     #[non_exhaustive]
     pub enum GlobalError {
@@ -57,9 +55,8 @@ mod global {
 
     impl core::error::Error for GlobalError {}
 
-    /// Whether a global variable can be written.
-    ///
-    /// Core specification 2.3, global types. Upstream: `wasmi_core::Mutability`.
+    /// Whether a global variable can be written. Core specification 2.3, global types. Upstream:
+    /// `wasmi_core::Mutability`.
     #[derive(Clone, Copy, Debug, PartialEq, Eq)]
     pub enum Mutability {
         /// It keeps its first value.
@@ -96,9 +93,8 @@ mod global {
         }
     }
 
-    /// The type of a global variable.
-    ///
-    /// Core specification 2.3, global types. Upstream: `wasmi_core::GlobalType`.
+    /// The type of a global variable. Core specification 2.3, global types. Upstream:
+    /// `wasmi_core::GlobalType`.
     ///
     /// # Fields in contracts
     ///
@@ -158,9 +154,8 @@ mod global {
         }
     }
 
-    /// A global variable, which contracts see as its present value and its type.
-    ///
-    /// Core specification 4.2, global instances. Upstream: `wasmi_core::Global`.
+    /// A global variable, which contracts see as its present value and its type. Core specification
+    /// 4.2, global instances. Upstream: `wasmi_core::Global`.
     #[doc = examples!(typed Global)]
     #[derive(Debug)]
     pub struct Global {
@@ -288,9 +283,8 @@ mod shift_amount {
         impl<T: Number, const N: usize> Sealed<T> for [T; N] {}
     }
 
-    /// By how many bits a number is shifted. Contracts see it as that number.
-    ///
-    /// Upstream: `wasmi_core::ShiftAmount`.
+    /// By how many bits a number is shifted. Contracts see it as that number. Upstream:
+    /// `wasmi_core::ShiftAmount`.
     ///
     /// # Model
     ///
@@ -525,9 +519,7 @@ mod typed {
     use crate::proved::types::ValType;
     use core::num::NonZero;
 
-    /// A type whose values are all of one value type.
-    ///
-    /// Upstream: `wasmi_core::Typed`.
+    /// A type whose values are all of one value type. Upstream: `wasmi_core::Typed`.
     ///
     /// # Contract
     ///
@@ -639,9 +631,7 @@ mod typed {
         const TY: ValType = ValType::V128;
     }
 
-    /// A raw value with its type.
-    ///
-    /// Upstream: `wasmi_core::TypedRawVal`.
+    /// A raw value with its type. Upstream: `wasmi_core::TypedRawVal`.
     ///
     /// # Fields in contracts
     ///
@@ -709,10 +699,7 @@ mod typed {
     impl<T: Typed + Into<RawVal>> From<T> for TypedRawVal {
         #[inline]
         fn from(value: T) -> TypedRawVal {
-            TypedRawVal {
-                ty: T::TY,
-                raw: value.into(),
-            }
+            TypedRawVal::new(T::TY, value.into())
         }
     }
 
@@ -876,9 +863,7 @@ mod typed_ref {
     use crate::proved::types::{RefType, ValType};
     use core::fmt;
 
-    /// A raw reference with its type.
-    ///
-    /// Upstream: `wasmi_core::TypedRawRef`.
+    /// A raw reference with its type. Upstream: `wasmi_core::TypedRawRef`.
     ///
     /// # Fields in contracts
     ///
@@ -918,10 +903,7 @@ mod typed_ref {
         #[must_use]
         #[inline]
         pub fn null(ty: RefType) -> TypedRawRef {
-            TypedRawRef {
-                raw: RawRef::null(),
-                ty,
-            }
+            TypedRawRef::new(RawRef::null(), ty)
         }
 
         /// The reference.
@@ -966,9 +948,7 @@ mod typed_ref {
         }
     }
 
-    /// Why a typed raw value is no reference: its type is none of references.
-    ///
-    /// Own: upstream panics.
+    /// Why a typed raw value is no reference: its type is none of references. Own: upstream panics.
     #[derive(Debug, PartialEq, Eq)]
     pub struct NotAReference;
 

@@ -1,7 +1,6 @@
 //! The value types, traps, function types and address types of WebAssembly.
 mod func_type {
-    //! Function types: how one is read of two iterators, kept, compared and hashed; the errors of
-    //! making one.
+    //! Function types: how one is read of two iterators, kept, compared and hashed; why one isn't.
 
     use crate::proved::types::ValType;
     use crate::rattle::alloc::AllocError;
@@ -12,9 +11,7 @@ mod func_type {
     use core::fmt;
     use core::hash::{Hash, Hasher};
 
-    /// Why a function type cannot be made.
-    ///
-    /// Upstream: `wasmi_core::FuncTypeError`.
+    /// Why a function type cannot be made. Upstream: `wasmi_core::FuncTypeError`.
     #[derive(Clone, Copy, Debug, PartialEq, Eq)]
     pub enum FuncTypeError {
         /// There are more than 1,000 parameters.
@@ -80,9 +77,7 @@ mod func_type {
     const INLINE_SIZE: usize = 21;
 
     impl FuncType {
-        /// Makes the type of a function with these parameters and results, which `read` reads: its
-        /// contract says what each answer means.
-        ///
+        /// Makes the type of a function with these parameters and results, as `read` reads them.
         /// Upstream: `FuncType::new`, there of iterators that know their lengths.
         ///
         /// # Contract
@@ -115,9 +110,8 @@ mod func_type {
         /// Of each it reads at most 1,001 items: more than 1,000 parameters are refused before any
         /// result is read, then more than 1,000 results. Memory is taken, and can be refused, only
         /// where there are more than 21 items. Of an iterator nothing is read after its end or after
-        /// its item number 1,001, and the results are read only once the parameters have ended.
-        ///
-        /// Own: `new` takes its iterators by value, so its contract can't say what is left of them.
+        /// its item number 1,001, and the results are read only once the parameters have ended. Own:
+        /// `new` takes its iterators by value, so its contract can't say what is left of them.
         ///
         /// # Contract
         ///
@@ -140,30 +134,7 @@ mod func_type {
             let mut entries = Entries::new();
             let len_params = entries.read(params, FuncTypeError::TooManyFunctionParams)?;
             let len_results = entries.read(results, FuncTypeError::TooManyFunctionResults)?;
-            match Self::from_entries(&entries, len_params, len_results) {
-                Ok(ty) => Ok(ty),
-                Err(_) => Err(FuncTypeError::OutOfMemory),
-            }
-        }
 
-        /// The function type of entries of which so many are parameters.
-        ///
-        /// # Contract
-        ///
-        /// ```text
-        /// requires count: length entries.now ≡ len_params + len_results
-        /// requires params: len_params ≤ 1000
-        /// requires results: len_results ≤ 1000
-        /// ensures params: IfOk result (λ ty. ty.params ≡ take len_params entries.now)
-        /// ensures results: IfOk result (λ ty. ty.results ≡ drop len_params entries.now)
-        /// ensures refused: IsErr result → 21 < length entries.now
-        /// ```
-        #[inline]
-        fn from_entries(
-            entries: &Entries,
-            len_params: u16,
-            len_results: u16,
-        ) -> Result<Self, AllocError> {
             if entries.rest.is_empty() {
                 let kept = Kept::Inline(entries.inline);
                 return Ok(FuncType {
@@ -172,12 +143,14 @@ mod func_type {
                     kept,
                 });
             }
-            let kept = entries.kept()?;
-            Ok(FuncType {
-                len_params,
-                len_results,
-                kept,
-            })
+            match entries.kept() {
+                Ok(kept) => Ok(FuncType {
+                    len_params,
+                    len_results,
+                    kept,
+                }),
+                Err(_) => Err(FuncTypeError::OutOfMemory),
+            }
         }
 
         /// The types of the parameters.
@@ -308,11 +281,7 @@ mod func_type {
                 Kept::Inline(types) => Kept::Inline(*types),
                 Kept::Big(types) => Kept::Big(types.try_clone()?),
             };
-            Ok(FuncType {
-                len_params: self.len_params,
-                len_results: self.len_results,
-                kept,
-            })
+            Ok(FuncType { kept, ..*self })
         }
     }
 
@@ -518,13 +487,11 @@ mod func_type {
         where
             I: Iterator<Item = ValType>,
         {
-            match types.next() {
-                Some(ty) => {
-                    self.push(ty)?;
-                    Ok(true)
-                }
-                None => Ok(false),
-            }
+            let Some(ty) = types.next() else {
+                return Ok(false);
+            };
+            self.push(ty)?;
+            Ok(true)
         }
 
         /// Appends what an iterator gives until its first `None`, and answers how many came.
@@ -564,15 +531,11 @@ mod func_type {
 pub mod hint {
     //! Hints on which branch is taken.
 
-    /// Does nothing. A branch that calls it is unlikely.
-    ///
-    /// Upstream: `wasmi_core::hint::cold`.
+    /// Does nothing. A branch that calls it is unlikely. Upstream: `wasmi_core::hint::cold`.
     #[cold]
     pub fn cold() {}
 
-    /// The condition, which is likely true.
-    ///
-    /// Upstream: `wasmi_core::hint::likely`.
+    /// The condition, which is likely true. Upstream: `wasmi_core::hint::likely`.
     ///
     /// # Contract
     ///
@@ -588,9 +551,7 @@ pub mod hint {
         condition
     }
 
-    /// The condition, which is unlikely true.
-    ///
-    /// Upstream: `wasmi_core::hint::unlikely`.
+    /// The condition, which is unlikely true. Upstream: `wasmi_core::hint::unlikely`.
     ///
     /// # Contract
     ///
@@ -611,9 +572,8 @@ mod index_ty {
 
     use crate::proved::types::ValType;
 
-    /// The type of the addresses of a linear memory, or of the indices of a table.
-    ///
-    /// The memory64 proposal, address types. Upstream: `wasmi_core::IndexType`.
+    /// The type of the addresses of a linear memory, or of the indices of a table. The memory64
+    /// proposal, address types. Upstream: `wasmi_core::IndexType`.
     #[derive(Clone, Copy, Debug, PartialEq, Eq)]
     pub enum IndexType {
         /// 32-bit addresses.
@@ -698,14 +658,11 @@ mod trap {
     use core::error::Error;
     use core::fmt;
 
-    /// An error of the host, which a [`Trap`] can carry.
-    ///
-    /// Upstream: `wasmi_core::HostError`.
+    /// An error of the host, which a [`Trap`] can carry. Upstream: `wasmi_core::HostError`.
     pub trait HostError: fmt::Display + fmt::Debug {}
 
     /// Why a call of WebAssembly code or of the host ended early: a trap code, an exit status, a
     /// message or an error of the host. It stands in the value, and nothing is allocated for it.
-    ///
     /// Upstream: `wasmi_core::Trap`.
     ///
     /// # Model
@@ -901,15 +858,11 @@ mod trap {
         }
     }
 
-    /// A number that no trap code has.
-    ///
-    /// Upstream: `wasmi_core::InvalidTrapCode`.
+    /// A number that no trap code has. Upstream: `wasmi_core::InvalidTrapCode`.
     #[derive(Clone, Copy, Debug, PartialEq, Eq)]
     pub struct InvalidTrapCode;
 
-    /// Why an instruction trapped, as the numbers 1 to 12.
-    ///
-    /// Upstream: `wasmi_core::TrapCode`.
+    /// Why an instruction trapped, as the numbers 1 to 12. Upstream: `wasmi_core::TrapCode`.
     #[derive(Clone, Copy, Debug, PartialEq, Eq)]
     #[repr(u8)]
     pub enum TrapCode {
@@ -1030,9 +983,8 @@ mod trap {
 mod value {
     //! Value types and reference types, and the conversion between them.
 
-    /// The type of a value. Ordered as listed.
-    ///
-    /// Core specification 2.3, value types. Upstream: `wasmi_core::ValType`.
+    /// The type of a value. Ordered as listed. Core specification 2.3, value types. Upstream:
+    /// `wasmi_core::ValType`.
     #[derive(Clone, Copy, Debug, PartialEq, Eq, PartialOrd, Ord, Hash)]
     pub enum ValType {
         /// A 32-bit integer.
@@ -1102,9 +1054,8 @@ mod value {
         }
     }
 
-    /// The type of a reference. `Func` is below `Extern`.
-    ///
-    /// Core specification 2.3, reference types. Upstream: `wasmi_core::RefType`.
+    /// The type of a reference. `Func` is below `Extern`. Core specification 2.3, reference types.
+    /// Upstream: `wasmi_core::RefType`.
     #[derive(Clone, Copy, Debug, PartialEq, Eq, PartialOrd, Ord, Hash)]
     pub enum RefType {
         /// A reference to a function.

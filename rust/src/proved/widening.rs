@@ -11,12 +11,10 @@ pub mod laws {
     ///
     /// ```text
     /// ensures unary: (narrow wide : Width) (first : ℕ) (read : ℕ → A) (row : A → ℕ) (v i : ℕ)
-    ///     → i < lane_count wide
-    ///     → lane wide (half_unary narrow wide first read row v) i
+    ///     → i < lane_count wide → lane wide (half_unary narrow wide first read row v) i
     ///     ≡ row (read (lane narrow v (first + i))) % 2 ^ bits wide
     /// ensures binary: (narrow wide : Width) (first : ℕ) (read : ℕ → A) (row : A → A → ℕ) (a b i : ℕ)
-    ///     → i < lane_count wide
-    ///     → lane wide (half_binary narrow wide first read row a b) i
+    ///     → i < lane_count wide → lane wide (half_binary narrow wide first read row a b) i
     ///     ≡ row (read (lane narrow a (first + i)))
     ///     (read (lane narrow b (first + i))) % 2 ^ bits wide
     /// ```
@@ -49,8 +47,7 @@ pub mod laws {
     #[inline]
     pub fn extended_lanes() {}
 
-    /// A number that is wrapped to a width is below 2 to the power of the width, and one in the signed
-    /// range is read as itself.
+    /// A number wrapped to a width is below 2 to its power; one in the signed range is read as itself.
     ///
     /// # Contract
     ///
@@ -70,13 +67,10 @@ pub mod laws {
     ///
     /// ```text
     /// ensures unary: (narrow wide : Width) (read : ℕ → A) (row : A → A → ℕ) (v i : ℕ)
-    ///     → i < lane_count wide
-    ///     → lane wide (pairwise_unary narrow wide read row v) i
-    ///     ≡ row (read (lane narrow v (2 * i)))
-    ///     (read (lane narrow v (2 * i + 1))) % 2 ^ bits wide
+    ///     → i < lane_count wide → lane wide (pairwise_unary narrow wide read row v) i
+    ///     ≡ row (read (lane narrow v (2 * i))) (read (lane narrow v (2 * i + 1))) % 2 ^ bits wide
     /// ensures binary: (narrow wide : Width) (read : ℕ → A) (row : A → A → A → A → ℕ) (a b i : ℕ)
-    ///     → i < lane_count wide
-    ///     → lane wide (pairwise_binary narrow wide read row a b) i
+    ///     → i < lane_count wide → lane wide (pairwise_binary narrow wide read row a b) i
     ///     ≡ row (read (lane narrow a (2 * i))) (read (lane narrow a (2 * i + 1)))
     ///     (read (lane narrow b (2 * i))) (read (lane narrow b (2 * i + 1))) % 2 ^ bits wide
     /// ```
@@ -87,9 +81,8 @@ pub mod laws {
     #[inline]
     pub fn pairwise_lanes<A>() {}
 
-    /// The lanes of a vector that is made of the wide lanes of two vectors are the rows of the first
-    /// one's, then those of the second one's, wrapped to the narrow width. `A` is the integer as which
-    /// a wide lane is read.
+    /// The lanes of a vector made of two vectors' wide lanes are the rows of the first one's, then the
+    /// second's, wrapped to the narrow width. `A` is the integer as which a wide lane is read.
     ///
     /// # Contract
     ///
@@ -943,9 +936,8 @@ pub mod simd {
     ///
     /// ```text
     /// requires callable: F.IsAlwaysCallable f
-    /// ensures lanes: (row : W.Item → ℕ)
-    ///     → ((x : W.Item) (z : L.Item) → W.Item.Fits x → L.Item.Fits z → F.post f x z
-    ///     → L.Item.image z ≡ row x)
+    /// ensures lanes: (row : W.Item → ℕ) → ((x : W.Item) (z : L.Item)
+    ///     → W.Item.Fits x → L.Item.Fits z → F.post f x z → L.Item.image z ≡ row x)
     ///     → result ≡ vector.from_low_high W.Item.width L.Item.width W.Item.read row low high
     /// ```
     ///
@@ -1705,8 +1697,7 @@ pub mod simd {
     /// # Contract
     ///
     /// ```text
-    /// ensures: result
-    ///     ≡ holds_below (lanes_in_word T.width)
+    /// ensures: result ≡ holds_below (lanes_in_word T.width)
     ///     (λ i. not (nat_eq (field (bits T.width * i) (bits T.width) word) 0))
     /// ```
     ///

@@ -1,6 +1,5 @@
 -- The call that numbers stand for: a line for each kind.
-use Rattle.std.specs.Prelude.{ℕ, ◌%◌, Option, Some, nat_eq, if◌then◌else◌, None}
-use Rattle.std.specs.Option.{option_map, option_and_then}
+use Rattle.std.specs.Prelude.{ℕ, ◌%◌, Option, Some, nat_eq, if◌then◌else◌, None, option_map, option_and_then}
 use Rattle.std.specs.Result.{result_ok}
 use Rattle.wasmi_machine.specs.declared.calls.Call.{Call}
 use Rattle.wasmi_machine.specs.declared.calls.Call.TheVariants as call

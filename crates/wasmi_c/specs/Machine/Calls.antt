@@ -1,9 +1,8 @@
 -- What a call does to a machine with its limiter, what lines of calls do, what a machine has and reserves in all, the
 -- loads, stores and instructions on two vectors that have a number, and what holds of all calls and runs, also of
 -- quotas.
-use Rattle.std.specs.Prelude.{◌≡◌, ◌⊎◌, ◌≤◌, ◌<◌, ◌-◌, ℕ, List, length, map, Option, Some, None, MatchOption, Vec, ◌≢◌, ◌^◌, nat_lt, if◌then◌else◌, ◌++◌, ◌∷◌, []}
+use Rattle.std.specs.Prelude.{◌≡◌, ◌⊎◌, ◌≤◌, ◌<◌, ◌-◌, ℕ, List, length, map, Option, Some, None, MatchOption, Vec, ◌≢◌, ◌^◌, nat_lt, if◌then◌else◌, ◌++◌, ◌∷◌, [], option_and_then, option_map}
 use Rattle.std.specs.Global.{Global}
-use Rattle.std.specs.Option.{option_and_then, option_map}
 use Rattle.wasmi_types.specs.Access.{at}
 use Rattle.wasmi_raw.specs.RawVal.{raw_of_vector, raw_of}
 use Rattle.wasmi_meter.specs.AnyLimiter.{any_limiter_rules, caps_of}
@@ -22,7 +21,7 @@ use Rattle.wasmi_c.specs.Machine.CallStructs.{call_of}
 use Rattle.wasmi_c.specs.MemoryCalls.{memory_fuel_needed}
 use Rattle.wasmi_c.specs.Machine.Caps.{MachineValue, StaysWithinCaps, Keeps}
 use Rattle.wasmi_c.specs.Machine.Replies.{only, with_number, memory_refusal, fuel_refusal, reply_struct, status_of}
-use Rattle.wasmi_c.specs.declared.status.TheConstants.{DONE, NO_CALL, NO_MACHINE, NO_ROOM, NO_SUCH, BAD_LINE, HEADER_LINE, TEXT_CUT, LENGTHS_DIFFER}
+use Rattle.wasmi_c.specs.declared.status.TheConstants.{DONE, NO_CALL, NO_ROOM, NO_SUCH, BAD_LINE, HEADER_LINE, TEXT_CUT, LENGTHS_DIFFER}
 use Rattle.wasmi_c.specs.Types.{reference_type_of}
 use Rattle.wasmi_c.specs.declared.{machine.call_struct.CallStruct.CallStruct, machine.limits.Room.Room, machine.limits.Totals.Totals, machine.reply_struct.ReplyStruct.ReplyStruct, instruction.binary.Binary.Binary, instruction.load.Load.Load, instruction.store.Store.Store}
 use Rattle.wasmi_ops.specs.declared.{load_store.LoadOp.LoadOp, load_store.StoreOp.StoreOp, vector.BinaryOp.BinaryOp}
@@ -67,15 +66,10 @@ InTurn Replies calls v replies w = ⊥
 
 -- as many replies as calls stand in the place of others; where there are not as many places, nothing has changed
 unfoldable pub RepliesInTurn : {V : Type 0} → (CallStruct → V → ReplyStruct → V → Type 0)
-    → List CallStruct → V → List ReplyStruct → ℕ × List ReplyStruct → V → Type 0
-RepliesInTurn Replies calls v old left w =
+    → List CallStruct → List ReplyStruct → V → ℕ × List ReplyStruct → V → Type 0
+RepliesInTurn Replies calls old v left w =
     ((length calls ≢ length old) × (left ≡ (LENGTHS_DIFFER, old)) × (w ≡ v))
     ⊎ ((length calls ≡ length old) × (left.0 ≡ DONE) × InTurn Replies calls v left.1 w)
-
--- a machine replies to the calls of a list in turn
-abbrev pub RepliesToList : List CallStruct → List ReplyStruct → MachineValue → ℕ × List ReplyStruct → MachineValue
-    → Type 0
-RepliesToList calls old machine left machine' = RepliesInTurn RepliesToStruct calls machine old left machine'
 
 -- the slots of each kind that a machine reserves for this room
 abbrev pub slots_of : Room → SlotCounts
@@ -96,8 +90,7 @@ ReservesIn holder with_machine room machine status holder' = ((status ≡ NO_ROO
 abbrev pub Reserves : Room → MachineValue → ℕ → MachineValue → Type 0
 Reserves room machine = ReservesIn machine (λ state. record machine { state = state }) room machine.state
 
--- what has a machine gets it as a reservation of so many elements in all of one of its tables leaves it, and the status is
--- that of the reply
+-- what has a machine gets it as a reservation of so many elements in all of a table leaves it, with the reply's status
 abbrev pub ReservesElementsIn : {V : Type 0} → V → (State → V) → ℕ → ℕ → State → ℕ → V → Type 0
 ReservesElementsIn holder with_machine table elements machine status holder' = (reply : Reply) × (machine' : State)
     × ReservesElements machine table elements reply machine' × (status ≡ status_of reply)
@@ -108,8 +101,7 @@ abbrev pub ReservesElementsByStatus : ℕ → ℕ → MachineValue → ℕ → M
 ReservesElementsByStatus table elements machine =
     ReservesElementsIn machine (λ state. record machine { state = state }) table elements machine.state
 
--- what a call does to what a handle holds, which has become another; where it holds nothing, the status says so, and
--- it holds nothing afterwards
+-- what a call does to what a handle holds: it becomes another; where it is nothing, that stays, and the result says so
 abbrev pub ActsOnHeld : {R V : Type 0} → R → Option V → R → Option V → (V → V → Type 0) → Type 0
 ActsOnHeld refusal None result held' Acts = (result ≡ refusal) × (held' ≡ None)
 ActsOnHeld {V = V} refusal (Some value) result held' Acts = (value' : V) × Acts value value' × (held' ≡ Some value')
@@ -154,10 +146,6 @@ totals_in status bytes elements =
 -- the machine's totals
 abbrev pub totals_of : MachineValue → Totals
 totals_of machine = totals_in DONE (total machine.state Bytes) (total machine.state Elements)
-
--- the totals where there is no machine
-abbrev pub no_totals : Totals
-no_totals = totals_in NO_MACHINE 0 0
 
 -- an amount of fuel is taken from the machine in a holder where its meter is on and so much is left, and the reply has
 -- what is left then; the holder has the machine with that, else it is the same
@@ -233,9 +221,7 @@ RepliesInStatus called machine status machine' = MatchOption called
 
 -- the reply to lines of calls: the length of the text of their replies, or that it has 2 ^ 64 - 1 bytes or more
 abbrev pub length_reply : ℕ → ReplyStruct
-length_reply count = if nat_lt count (2 ^ 64 - 1)
-    then with_number DONE count
-    else with_number TEXT_CUT (2 ^ 64 - 1)
+length_reply count = if nat_lt count (2 ^ 64 - 1) then with_number DONE count else with_number TEXT_CUT (2 ^ 64 - 1)
 
 -- what lines of calls write for the caller: as much of the text of their replies as fits stands at the front of
 -- bytes, those after it stay, and the reply has the text's length

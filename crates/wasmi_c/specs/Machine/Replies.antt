@@ -5,8 +5,7 @@ use Rattle.wasmi_types.specs.declared.value.RefType.{RefType}
 use Rattle.wasmi_types.specs.declared.value.RefType.TheVariants.{Func, Extern}
 use Rattle.wasmi_raw.specs.RawVal.{raw_of}
 use Rattle.wasmi_raw.specs.declared.raw.RawVal.{RawVal}
-use Rattle.wasmi_typed.specs.declared.typed_ref.TypedRawRef.{TypedRawRef}
-use Rattle.wasmi_meter.specs.declared.{error.MemoryError.MemoryError, error.TableError.TableError, fuel.FuelError.FuelError}
+use Rattle.wasmi_meter.specs.declared.{error.MemoryError.MemoryError, fuel.FuelError.FuelError}
 use Rattle.wasmi_meter.specs.declared.fuel.FuelError.TheVariants as fuel
 use Rattle.wasmi_machine.specs.declared.calls.Reply.{Reply}
 use Rattle.wasmi_machine.specs.declared.calls.Reply.TheVariants as reply
@@ -16,14 +15,9 @@ use Rattle.wasmi_c.specs.Status.{memory_status, table_status, fuel_status, globa
 use Rattle.wasmi_c.specs.declared.status.TheConstants.{DONE, NO_ELEMENT, NO_REGION, NO_ROOM, NO_SUCH}
 use Rattle.wasmi_c.specs.declared.machine.reply_struct.ReplyStruct.{ReplyStruct}
 
--- the raw value of a reply without a value
-abbrev pub no_value : RawVal
-no_value = raw_of 0
-
 -- a reply with a number
 abbrev pub with_number : ℕ → ℕ → ReplyStruct
-with_number status number =
-    record { value = no_value; number = number; reference = 0; ty = 0; status = status }
+with_number status number = record { value = raw_of 0; number = number; reference = 0; ty = 0; status = status }
 
 -- a reply that has a status and nothing else
 abbrev pub only : ℕ → ReplyStruct
@@ -38,18 +32,6 @@ abbrev pub reference_number : RefType → ℕ
 reference_number Func = 5
 reference_number Extern = 6
 
--- a reply with an element of a table
-abbrev pub with_reference : TypedRawRef → ReplyStruct
-with_reference element = record (only DONE) { reference = element.raw; ty = reference_number element.ty }
-
--- the fuel that a refused call on a memory needs, else 0
-abbrev pub memory_fuel : MemoryError → ℕ
-memory_fuel error = memory_fuel_needed error 0
-
--- the fuel that a refused call on a table needs, else 0
-abbrev pub table_fuel : TableError → ℕ
-table_fuel error = table_fuel_needed error 0
-
 -- the number in the reply to a refused call on the meter: the fuel that it needs, else 0
 abbrev pub meter_fuel : FuelError → ℕ
 meter_fuel (fuel.OutOfFuel required) = required
@@ -57,11 +39,7 @@ meter_fuel error = 0
 
 -- why a call on a memory was refused
 abbrev pub memory_refusal : MemoryError → ReplyStruct
-memory_refusal error = with_number (memory_status error) (memory_fuel error)
-
--- why a call on a table was refused
-abbrev pub table_refusal : TableError → ReplyStruct
-table_refusal error = with_number (table_status error) (table_fuel error)
+memory_refusal error = with_number (memory_status error) (memory_fuel_needed error 0)
 
 -- why a call on the meter was refused
 abbrev pub fuel_refusal : FuelError → ReplyStruct
@@ -91,13 +69,14 @@ abbrev pub number_of : Reply → ℕ
 number_of (reply.Made index) = index
 number_of (reply.Number number) = number
 number_of (reply.Bytes bytes) = length bytes
-number_of (reply.Memory error) = memory_fuel error
-number_of (reply.Table error) = table_fuel error
+number_of (reply.Memory error) = memory_fuel_needed error 0
+number_of (reply.Table error) = table_fuel_needed error 0
 number_of (reply.Fuel error) = meter_fuel error
 number_of full = 0
 
 -- a reply as a struct
 abbrev pub reply_struct : Reply → ReplyStruct
 reply_struct (reply.Value value) = with_value value
-reply_struct (reply.Reference (Some element)) = with_reference element
+reply_struct (reply.Reference (Some element)) =
+    record (only DONE) { reference = element.raw; ty = reference_number element.ty }
 reply_struct full = with_number (status_of full) (number_of full)

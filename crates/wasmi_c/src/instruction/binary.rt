@@ -4,7 +4,7 @@ ghost use Rattle.wasmi_c.specs.Instruction.{Leaves, each_of_two, binary_numbered
 
 use crate::instruction::list::numbered;
 use crate::instruction::numbers::BINARY_INSTRUCTIONS;
-use crate::instruction::result::{InstructionResult, Refusal, leave, op_or_return, result_of};
+use crate::instruction::result::{InstructionResult, Refusal, leave, result_of};
 use crate::instruction::rows::by_digit;
 use crate::status::DONE;
 use wasmi_ops::{BinaryOp, ShiftOp};
@@ -64,7 +64,9 @@ pub fn binary_numbered(number: u16) -> Option<Binary>
 pub fn binary_by_number(number: u16, a: RawVal, b: RawVal, value: &mut RawVal) -> u8
     ensures { Leaves (binary_result number a b) value.old value.new result }
 {
-    op_or_return!(op, binary_numbered(number).ok_or(Refusal::Unknown));
+    let Some(op) = binary_numbered(number) else {
+        return Refusal::Unknown.into();
+    };
     leave(op.apply(a, b), value)
 }
 
@@ -132,6 +134,8 @@ fn each_at<const HIGH: u16, const LOW: u16>(
     ensures outcome { Leaves (binary_results (HIGH * 16 + LOW) a.now b.now (length results.old))
         results.old results.new result }
 {
-    op_or_return!(op, binary_numbered(HIGH * 16 + LOW).ok_or(Refusal::Unknown));
+    let Some(op) = binary_numbered(HIGH * 16 + LOW) else {
+        return Refusal::Unknown.into();
+    };
     op.each(a, b, results)
 }

@@ -16,7 +16,9 @@ use wasmi_raw::RawVal;
 pub fn extraction(number: u16, lane: u8) -> Result<ExtractOp, Refusal>
     ensures { result ≡ extraction_of number lane }
 {
-    let kind = op_numbered(&EXTRACTIONS, number).ok_or(Refusal::Unknown)?;
+    let Some(kind) = op_numbered(&EXTRACTIONS, number) else {
+        return Err(Refusal::Unknown);
+    };
     kind.on(lane).ok_or(Refusal::NoLane)
 }
 
@@ -25,7 +27,9 @@ pub fn extraction(number: u16, lane: u8) -> Result<ExtractOp, Refusal>
 pub fn replacement(number: u16, lane: u8) -> Result<ReplaceOp, Refusal>
     ensures { result ≡ replacement_of number lane }
 {
-    let kind = op_numbered(&REPLACEMENTS, number).ok_or(Refusal::Unknown)?;
+    let Some(kind) = op_numbered(&REPLACEMENTS, number) else {
+        return Err(Refusal::Unknown);
+    };
     kind.on(lane).ok_or(Refusal::NoLane)
 }
 
@@ -34,7 +38,9 @@ pub fn replacement(number: u16, lane: u8) -> Result<ReplaceOp, Refusal>
 pub fn lane_load(number: u16, lane: u8) -> Result<LoadLaneOp, Refusal>
     ensures { result ≡ lane_load_of number lane }
 {
-    let kind = op_numbered(&LANE_LOADS, number).ok_or(Refusal::Unknown)?;
+    let Some(kind) = op_numbered(&LANE_LOADS, number) else {
+        return Err(Refusal::Unknown);
+    };
     kind.on(lane).ok_or(Refusal::NoLane)
 }
 
@@ -43,7 +49,9 @@ pub fn lane_load(number: u16, lane: u8) -> Result<LoadLaneOp, Refusal>
 pub fn lane_store(number: u16, lane: u8) -> Result<StoreLaneOp, Refusal>
     ensures { result ≡ lane_store_of number lane }
 {
-    let kind = op_numbered(&LANE_STORES, number).ok_or(Refusal::Unknown)?;
+    let Some(kind) = op_numbered(&LANE_STORES, number) else {
+        return Err(Refusal::Unknown);
+    };
     kind.on(lane).ok_or(Refusal::NoLane)
 }
 

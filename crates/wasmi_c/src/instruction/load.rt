@@ -1,11 +1,11 @@
 //! The loads by their numbers, but for those of one lane.
-ghost use Rattle.std.specs.Prelude.{◌≡◌, ◌+◌, length};
+ghost use Rattle.std.specs.Prelude.{◌≡◌, ◌<◌, ◌+◌, ◌*◌, length};
 ghost use Rattle.wasmi_c.specs.Instruction.{Leaves, each_of, load_numbered, load_outcome, load_result, load_results, loaded_value};
 
 use crate::instruction::list::numbered;
 use crate::instruction::numbers::{LOAD_INSTRUCTIONS, load_numbers};
-use crate::instruction::result::{InstructionResult, Refusal, leave, op_or_return, result_of};
-use crate::instruction::rows::part_once;
+use crate::instruction::result::{InstructionResult, Refusal, leave, result_of};
+use crate::instruction::rows::{by_digit, part_once};
 use crate::status::DONE;
 use wasmi_ops::{LoadOp, VectorLoadOp};
 use wasmi_raw::RawVal;
@@ -60,7 +60,9 @@ pub fn load_numbered(number: u16) -> Option<Load>
 pub fn load_by_number(number: u16, memory: &[u8], ptr: u64, offset: u64, value: &mut RawVal) -> u8
     ensures { Leaves (load_result number memory.now (ptr + offset)) value.old value.new result }
 {
-    op_or_return!(op, load_numbered(number).ok_or(Refusal::Unknown));
+    let Some(op) = load_numbered(number) else {
+        return Refusal::Unknown.into();
+    };
     leave(load_by_op(op, memory, ptr, offset), value)
 }
 
@@ -85,14 +87,61 @@ pub fn load_each(
     ensures { Leaves (load_results number memory.now ptrs.now offset (length results.old))
         results.old results.new result }
 {
-    op_or_return!(op, load_numbered(number).ok_or(Refusal::Unknown));
-    // The load is looked at once, and not at each element.
-    match op {
-        Load::Scalar(op) => {
-            load_numbers!(part_once! Scalar [op Load each(memory, ptrs, offset, results)])
-        }
-        Load::Vector(op) => {
-            load_numbers!(part_once! Vector [op Load each(memory, ptrs, offset, results)])
-        }
+    // The number is looked at once, and not at each element.
+    each_by_digits(number / 16, number % 16, memory, ptrs, offset, results)
+}
+
+// A row has sixteen numbers: instructions past the last row take an arm more.
+fn each_by_digits(
+    high: u16,
+    low: u16,
+    memory: &[u8],
+    ptrs: &[u64],
+    offset: u64,
+    results: &mut [InstructionResult],
+) -> u8
+    requires high { high < 4096 }
+    requires low { low < 16 }
+    ensures outcome { Leaves (load_results (high * 16 + low) memory.now ptrs.now offset
+        (length results.old)) results.old results.new result }
+{
+    match high {
+        0 => each_in_row::<0>(low, memory, ptrs, offset, results),
+        1 => each_in_row::<1>(low, memory, ptrs, offset, results),
+        _ => Refusal::Unknown.into(),
     }
+}
+
+fn each_in_row<const HIGH: u16>(
+    low: u16,
+    memory: &[u8],
+    ptrs: &[u64],
+    offset: u64,
+    results: &mut [InstructionResult],
+) -> u8
+    requires high { HIGH < 4096 }
+    requires low { low < 16 }
+    ensures outcome { Leaves (load_results (HIGH * 16 + low) memory.now ptrs.now offset
+        (length results.old)) results.old results.new result }
+{
+    by_digit!(low, each_at[HIGH](memory, ptrs, offset, results))
+}
+
+// The code of each number has its own loop.
+#[inline(always)]
+fn each_at<const HIGH: u16, const LOW: u16>(
+    memory: &[u8],
+    ptrs: &[u64],
+    offset: u64,
+    results: &mut [InstructionResult],
+) -> u8
+    requires high { HIGH < 4096 }
+    requires low { LOW < 16 }
+    ensures outcome { Leaves (load_results (HIGH * 16 + LOW) memory.now ptrs.now offset
+        (length results.old)) results.old results.new result }
+{
+    let Some(op) = load_numbered(HIGH * 16 + LOW) else {
+        return Refusal::Unknown.into();
+    };
+    op.each(memory, ptrs, offset, results)
 }

@@ -10,8 +10,7 @@ use crate::status::{DONE, LENGTHS_DIFFER, NO_LANE, UNKNOWN};
 use wasmi_raw::{RawVal, V128};
 use wasmi_types::TrapCode;
 
-/// Names the instruction that is found; where it isn't, the function that this is written in returns
-/// the status of the refusal.
+/// Names the instruction that is found, or returns the refusal's status from the function it is in.
 macro_rules! op_or_return {
     ($op:ident, $found:expr) => {
         let $op = match $found {

@@ -2,7 +2,7 @@
 ghost use Rattle.std.specs.Prelude.{◌≡◌};
 ghost use Rattle.wasmi_c.specs.Instruction.{Leaves, lanes_of, shuffle_result};
 
-use crate::instruction::result::{Refusal, leave_vector, op_or_return};
+use crate::instruction::result::{Refusal, leave_vector};
 use wasmi_lanes::ImmLaneIdx32;
 use wasmi_lanewise::simd;
 use wasmi_raw::RawVal;
@@ -22,6 +22,8 @@ pub fn lanes_of(indices: [u8; 16]) -> Option<[ImmLaneIdx32; 16]>
 pub fn shuffle(a: RawVal, b: RawVal, indices: [u8; 16], value: &mut RawVal) -> u8
     ensures { Leaves (shuffle_result a b indices) value.old value.new result }
 {
-    op_or_return!(lanes, lanes_of(indices).ok_or(Refusal::NoLane));
+    let Some(lanes) = lanes_of(indices) else {
+        return Refusal::NoLane.into();
+    };
     leave_vector(Ok(simd::i8x16_shuffle(a.into(), b.into(), lanes)), value)
 }

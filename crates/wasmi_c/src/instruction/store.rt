@@ -5,7 +5,7 @@ ghost use Rattle.wasmi_c.specs.Instruction.{store_numbered, store_result, stored
 
 use crate::instruction::list::numbered;
 use crate::instruction::numbers::STORE_INSTRUCTIONS;
-use crate::instruction::result::{Refusal, op_or_return, status_of};
+use crate::instruction::result::{Refusal, status_of};
 use wasmi_ops::StoreOp;
 use wasmi_raw::RawVal;
 use wasmi_types::TrapCode;
@@ -44,6 +44,8 @@ pub fn store_by_number(number: u16, memory: &mut [u8], ptr: u64, offset: u64, va
     ensures { Leaves (store_result number memory.old (ptr + offset) value)
         memory.old memory.new result }
 {
-    op_or_return!(op, store_numbered(number).ok_or(Refusal::Unknown));
+    let Some(op) = store_numbered(number) else {
+        return Refusal::Unknown.into();
+    };
     status_of(op.store(memory, ptr, offset, value))
 }

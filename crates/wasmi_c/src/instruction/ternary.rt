@@ -4,7 +4,7 @@ ghost use Rattle.wasmi_c.specs.Instruction.{Leaves, each_of_three, op_numbered, 
 ghost use Rattle.wasmi_ops.specs.declared.vector.TheConstants.{TERNARIES};
 
 use crate::instruction::list::op_numbered;
-use crate::instruction::result::{Refusal, leave, op_or_return};
+use crate::instruction::result::{Refusal, leave};
 use crate::status::DONE;
 use wasmi_ops::{TERNARIES, TernaryOp};
 use wasmi_raw::RawVal;
@@ -27,7 +27,9 @@ pub fn ternary_numbered(number: u16) -> Option<TernaryOp>
 pub fn ternary_by_number(number: u16, a: RawVal, b: RawVal, c: RawVal, value: &mut RawVal) -> u8
     ensures { Leaves (ternary_result number a b c) value.old value.new result }
 {
-    op_or_return!(op, ternary_numbered(number).ok_or(Refusal::Unknown));
+    let Some(op) = ternary_numbered(number) else {
+        return Refusal::Unknown.into();
+    };
     leave(Ok(apply(op, a, b, c)), value)
 }
 
@@ -42,7 +44,9 @@ pub fn ternary_each(
     ensures { Leaves (ternary_results number a.now b.now c.now (length values.old))
         values.old values.new result }
 {
-    op_or_return!(op, ternary_numbered(number).ok_or(Refusal::Unknown));
+    let Some(op) = ternary_numbered(number) else {
+        return Refusal::Unknown.into();
+    };
     each(op, a, b, c, values)
 }
 

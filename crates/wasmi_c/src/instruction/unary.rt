@@ -4,7 +4,7 @@ ghost use Rattle.wasmi_c.specs.Instruction.{Leaves, each_of, unary_numbered, una
 
 use crate::instruction::list::numbered;
 use crate::instruction::numbers::UNARY_INSTRUCTIONS;
-use crate::instruction::result::{Refusal, leave, op_or_return};
+use crate::instruction::result::{Refusal, leave};
 use crate::instruction::rows::by_digit;
 use crate::status::DONE;
 use wasmi_ops::{MakeOp, TestOp, UnaryOp};
@@ -66,7 +66,9 @@ pub fn unary_numbered(number: u16) -> Option<Unary>
 pub fn unary_by_number(number: u16, a: RawVal, value: &mut RawVal) -> u8
     ensures { Leaves (unary_result number a) value.old value.new result }
 {
-    op_or_return!(op, unary_numbered(number).ok_or(Refusal::Unknown));
+    let Some(op) = unary_numbered(number) else {
+        return Refusal::Unknown.into();
+    };
     leave(Ok(op.apply(a)), value)
 }
 
@@ -111,6 +113,8 @@ fn each_at<const HIGH: u16, const LOW: u16>(a: &[RawVal], values: &mut [RawVal])
     ensures outcome { Leaves (unary_results (HIGH * 16 + LOW) a.now (length values.old))
         values.old values.new result }
 {
-    op_or_return!(op, unary_numbered(HIGH * 16 + LOW).ok_or(Refusal::Unknown));
+    let Some(op) = unary_numbered(HIGH * 16 + LOW) else {
+        return Refusal::Unknown.into();
+    };
     op.each(a, values)
 }

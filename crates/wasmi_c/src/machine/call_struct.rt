@@ -85,9 +85,9 @@ impl CallStruct {
         ensures { result ≡ call_of self.now }
     {
         Some(match self.kind {
-            LOAD => self.load_call()?,
-            STORE => self.store_call()?,
-            BINARY => self.binary_call()?,
+            LOAD => return self.load_call(),
+            STORE => return self.store_call(),
+            BINARY => return self.binary_call(),
             // What tools/generate writes begins.
             0 => Call::SetFuel(self.count),
             1 => Call::GetFuel,
@@ -209,7 +209,7 @@ impl CallStruct {
         ensures { result ≡ value_call self.now }
     {
         Some(match self.kind {
-            23 => self.unary_call()?,
+            23 => return self.unary_call(),
             // What tools/generate writes begins.
             18 => Call::NewGlobal {
                 value: self.value,
@@ -253,7 +253,6 @@ impl CallStruct {
         })
     }
 
-    /// A load of an item or of a vector.
     fn load_call(&self) -> Option<Call>
         ensures { result ≡ load_call self.now }
     {
@@ -275,7 +274,6 @@ impl CallStruct {
         })
     }
 
-    /// A store of an item or of a vector.
     fn store_call(&self) -> Option<Call>
         ensures { result ≡ store_call self.now }
     {
@@ -325,14 +323,12 @@ impl CallStruct {
         }
     }
 
-    /// The reference with its type.
     fn typed_reference(&self) -> Option<TypedRawRef>
         ensures { result ≡ typed_reference_of self.now }
     {
         Some(TypedRawRef::new(RawRef::from(self.reference), reference_type(self.ty)?))
     }
 
-    /// The type of a memory, if there is such a type.
     fn memory_type(&self) -> Option<MemoryType>
         ensures { result ≡ memory_type_in self.now }
     {
@@ -340,7 +336,6 @@ impl CallStruct {
         memory_type(self.count, maximum, self.is_64, self.page_size_log2)
     }
 
-    /// The type of a table, if there is such a type.
     fn table_type(&self) -> Option<TableType>
         ensures { result ≡ table_type_in self.now }
     {
@@ -348,14 +343,12 @@ impl CallStruct {
         table_type(self.ty, self.count, maximum, self.is_64)
     }
 
-    /// The lowest byte of the value.
     fn byte(&self) -> u8
         ensures { result ≡ byte_of self.now }
     {
         (self.value.lo % 256) as u8
     }
 
-    /// Whether a global can be written.
     fn mutability(&self) -> Mutability
         ensures { result ≡ mutability_of self.now }
     {

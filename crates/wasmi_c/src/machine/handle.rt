@@ -25,13 +25,14 @@ macro_rules! on_machine {
         $crate::on_machine!($handle, ReplyStruct::only(NO_MACHINE), $machine => $call)
     };
     ($handle:expr, $none:expr, $machine:ident => $call:expr) => {{
-        if !$handle.is_made() {
-            return $none;
+        if $handle.is_made() {
+            let $machine = $handle.machine.machine_mut();
+            let reply = $call;
+            $machine.show_within();
+            reply
+        } else {
+            $none
         }
-        let $machine = $handle.machine.machine_mut();
-        let reply = $call;
-        $machine.show_within();
-        reply
     }};
 }
 

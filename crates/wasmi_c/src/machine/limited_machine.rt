@@ -47,7 +47,7 @@ impl Model for LimitedMachine {
 }
 
 impl LimitedMachine {
-    ghost use Rattle.wasmi_c.specs.Machine.Calls.{MachineReplies, RepliesInStatus, RepliesInStruct, RepliesInWord, RepliesToCopy, RepliesToItems, RepliesToSegment, RepliesToList, RepliesToStruct, Reserves, PaysFuel, totals_of, ReservesElementsByStatus};
+    ghost use Rattle.wasmi_c.specs.Machine.Calls.{MachineReplies, RepliesInStatus, RepliesInStruct, RepliesInTurn, RepliesInWord, RepliesToCopy, RepliesToItems, RepliesToSegment, RepliesToStruct, Reserves, PaysFuel, totals_of, ReservesElementsByStatus};
     ghost use Rattle.wasmi_c.specs.Machine.Caps.{IsCapped};
     ghost use Rattle.wasmi_c.specs.Machine.NewMachines.{IsNewMachine, IsNewWithAnswers};
 
@@ -93,7 +93,6 @@ impl LimitedMachine {
         self.machine.step_lending(call, &mut self.limiter)
     }
 
-    /// Replies to one call, with the reply as a struct.
     fn reply_in_struct(&mut self, call: &Call) -> ReplyStruct
         ensures step { RepliesInStruct call.now self.old result self.new }
         ensures caps { caps_of self.new.limiter ≡ caps_of self.old.limiter }
@@ -136,7 +135,8 @@ impl LimitedMachine {
     /// the caller's, if there are as many. It takes no memory for them.
     #[tactic(auto, unfolding(crate::specs::Machine::Calls::RepliesInTurn))]
     pub fn run_into(&mut self, calls: &[CallStruct], replies: &mut [ReplyStruct]) -> u8
-        ensures step { RepliesToList calls.now replies.old self.old (result, replies.new) self.new }
+        ensures step { RepliesInTurn RepliesToStruct calls.now replies.old self.old
+            (result, replies.new) self.new }
         ensures caps { caps_of self.new.limiter ≡ caps_of self.old.limiter }
     {
         if replies.len() != calls.len() {
@@ -160,8 +160,7 @@ impl LimitedMachine {
         }
     }
 
-    /// Reserves memory for so many elements in all of a table. If the memory is refused, nothing has
-    /// changed.
+    /// Reserves memory for so many elements in all of a table, or changes nothing if it is refused.
     #[tactic(auto, using(crate::proofs::MachineLemmas::kept_by_elements))]
     pub fn reserve_elements(&mut self, table: usize, elements: u64) -> u8
         ensures step { ReservesElementsByStatus table elements self.old result self.new }
@@ -184,7 +183,6 @@ impl LimitedMachine {
         }
     }
 
-    /// Loads an item.
     #[inline(always)]
     fn load_item(&self, op: LoadOp, memory: usize, ptr: u64, offset: u64) -> Reply
         ensures { MachineReplies (Load op memory ptr offset) self.now result self.now }
@@ -266,7 +264,6 @@ impl LimitedMachine {
         leave(self.grow_memory(memory, pages), number)
     }
 
-    /// Grows a memory by so many pages.
     #[inline(always)]
     fn grow_memory(&mut self, memory: usize, pages: u64) -> Reply
         ensures step { MachineReplies (GrowMemory memory pages) self.old result self.new }
@@ -294,8 +291,7 @@ impl LimitedMachine {
         leave(self.reply(&call), number)
     }
 
-    /// Copies a range of a memory to another one, or within it, and leaves a status and a word of
-    /// the reply.
+    /// Copies a range of a memory to another or within it; leaves a status and a word of the reply.
     #[inline(always)]
     #[tactic(auto, unfolding(crate::specs::Machine::Calls::RepliesInWord))]
     pub fn copy(
@@ -496,9 +492,8 @@ pub(crate) fn read_out(
 
 /// The script that lines write, if it has no header lines; else why they aren't run.
 pub(crate) fn headless(alloc: Global, lines: &[u8]) -> Result<Script, ReplyStruct>
-    ensures { MatchResult result
-        (λ script. WritesScript lines.now script × (script.header ≡ no_header))
-        (λ refusal. RefusesLines lines.now refusal) }
+    ensures { MatchResult result (λ script. WritesScript lines.now script
+        × (script.header ≡ no_header)) (λ refusal. RefusesLines lines.now refusal) }
 {
     match parse(alloc, lines) {
         Ok(script) => {

@@ -119,7 +119,6 @@ pub(super) fn answers_of(alloc: Global, numbers: &[u8]) -> Result<Vec<LimiterAns
     numbers.iter().map(|number| answer(*number)).collect(alloc)
 }
 
-/// The answer that a number below 4 stands for.
 fn answer(number: u8) -> LimiterAnswer
     ensures { result ≡ answer_of number }
 {

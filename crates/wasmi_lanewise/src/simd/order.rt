@@ -1,7 +1,6 @@
 //! Comparisons of lanes by order, and the smaller or larger of lanes, on vectors of `std::simd`.
 //!
 //! Lanes that are read signed are moved by half of their range, and then compared as unsigned ones.
-
 ghost use Rattle.std.specs.Prelude.{◌≡◌, ℕ, ◌-◌, ◌^◌, ◌<◌, nat_lt, if◌then◌else◌};
 ghost use Rattle.wasmi_types.specs.Numbers.{bits};
 ghost use Rattle.wasmi_lanes.specs.Vector.{lane, lane_count};
@@ -82,8 +81,7 @@ pub(super) fn larger_s<T: SimdLane>(lhs: V128, rhs: V128) -> V128
 // All ones where the lane of `a` is less than that of `b`, else all zeros.
 #[inline(always)]
 fn ones_if_less<T: SimdLane>(a: T::Vector, b: T::Vector) -> V128
-    ensures lanes { (i : ℕ) → i < lane_count T.width
-        → lane T.width result i
+    ensures lanes { (i : ℕ) → i < lane_count T.width → lane T.width result i
         ≡ (if nat_lt (T.at a i) (T.at b i) then 2 ^ bits T.width - 1 else 0) }
     ensures in_range { result < 2 ^ 128 }
 {

@@ -1,9 +1,7 @@
-//! Sums, differences, negatives, equality and averages of lanes on the two words of a vector, whose
-//! lanes stay where they are.
+//! Sums, differences, negatives, equality and averages of lanes in place, on a vector's two words.
 //!
 //! What is generic in a lane type takes the highest bits of a word's lanes, the tops, from it.
 //! Lanes whose highest bit marks them as equal or as different are filled with ones.
-
 ghost use Rattle.std.specs.Prelude.{◌≡◌, ℕ, ◌-◌, ◌%◌, ◌^◌, ◌<◌};
 ghost use Rattle.wasmi_raw.specs.RawVal.{vector_of};
 ghost use Rattle.wasmi_types.specs.Numbers.{bits};

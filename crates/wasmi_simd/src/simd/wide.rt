@@ -1,7 +1,6 @@
 //! Lanes at twice their width, and lanes read as signed ones, as `std::simd` vectors.
 //! `ExtendedLane` takes those of half a vector and makes their products, `PairedLane` takes every
 //! second one of a vector and makes their sums. LLVM takes plain lanes out one by one.
-
 ghost use Rattle.std.specs.Prelude.{◌≡◌, ℕ, pos, ◌+◌, ◌*◌, ◌%◌, ◌^◌, ◌<◌, slice_index, slice_index_or};
 ghost use Rattle.std.specs.Int.{cast_unsigned};
 ghost use Rattle.wasmi_types.specs.Numbers.{w8, w16, w32, bits, signed};

@@ -107,7 +107,6 @@ impl<R: Region + Drop> Drop for Buffer<R> {
 }
 
 /// A growable buffer of bytes; `'r` is the lifetime of a borrowed buffer that they may lie in.
-///
 /// Upstream: `ByteBuffer` of `wasmi_core`'s module `memory`.
 pub type ByteBuffer<'r> = Buffer<&'r mut [u8]>;
 
@@ -153,11 +152,6 @@ impl<R: Region> Buffer<R> {
 
     /// Appends zeros up to `new_size` bytes, which isn't below the present number. If the bytes are
     /// borrowed, nothing is allocated, and those past the new size stay as they are.
-    ///
-    /// # Errors
-    ///
-    /// `OutOfSystemMemory` if the bytes are owned and memory is refused; `InvalidStaticBufferSize`
-    /// if they are borrowed and the borrowed buffer is shorter.
     pub fn grow(&mut self, new_size: usize) -> Result<(), MemoryError>
         requires grows { length self.old.bytes ≤ new_size }
         ensures ok { OnOk result
@@ -184,10 +178,6 @@ impl<R: Region> Buffer<R> {
 
 impl<'r> Buffer<&'r mut [u8]> {
     /// A buffer of `size` zeros in memory of its own.
-    ///
-    /// # Errors
-    ///
-    /// `OutOfSystemMemory` if memory is refused.
     pub fn new(alloc: Global, size: usize) -> Result<ByteBuffer<'r>, MemoryError>
         ensures ok { IfOk result (λ b. b ≡ zeros_in Owned size) }
         ensures err { IfErr result (λ e. e ≡ MemoryError.OutOfSystemMemory) }
@@ -199,17 +189,10 @@ impl<'r> Buffer<&'r mut [u8]> {
 
     /// A buffer of `size` zeros at the front of a borrowed one. It allocates nothing, and the bytes
     /// past them stay as they are.
-    ///
-    /// # Errors
-    ///
-    /// `InvalidStaticBufferSize` if the borrowed buffer is shorter. Then the loan has ended, and
-    /// its bytes are unchanged.
     pub fn new_static(region: &'r mut [u8], size: usize) -> Result<ByteBuffer<'r>, MemoryError>
-        ensures ok { IfOk result
-            (λ b. (fits_room (Lent region.entry.now) size ≡ true)
+        ensures ok { IfOk result (λ b. (fits_room (Lent region.entry.now) size ≡ true)
             × (b ≡ zeros_in (Lent region.entry.now) size)) }
-        ensures err { IfErr result
-            (λ e. (fits_room (Lent region.entry.now) size ≡ false)
+        ensures err { IfErr result (λ e. (fits_room (Lent region.entry.now) size ≡ false)
             × (e ≡ MemoryError.InvalidStaticBufferSize)) }
     {
         if region.len() < size {

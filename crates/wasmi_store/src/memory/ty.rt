@@ -44,7 +44,6 @@ impl PageSize {
 }
 
 /// The type of a linear memory: its address type, page size, minimum and optional maximum in pages.
-///
 /// Core specification, memory types. Upstream: `wasmi_core::MemoryType`.
 #[derive(Clone, Copy, Debug, PartialEq, Eq)]
 pub struct MemoryType {
@@ -132,7 +131,6 @@ impl MemoryType {
             && is_no_looser(self.maximum, other.maximum)
     }
 
-    /// The type with another minimum.
     pub(super) fn with_minimum(self, minimum: u64) -> Self
         requires within { in_bounds self minimum ≡ true }
         ensures value { result ≡ record self { minimum = minimum } }
@@ -174,14 +172,12 @@ impl MemoryType {
             (λ grown. (in_bounds self (size / page_bytes self.page + additional) ≡ true)
             × (grown ≡ size + additional * page_bytes self.page)) }
     {
-        let pages = self.pages_in(size).checked_add(additional)?;
-        self.size_of_pages(pages)
+        self.size_of_pages(self.pages_in(size).checked_add(additional)?)
     }
 
     /// The bytes of `pages` pages, if a memory of this type may have that many.
     pub fn size_of_pages(self, pages: u64) -> Option<usize>
-        ensures { MatchOption result
-            (in_bounds self pages ≡ false)
+        ensures { MatchOption result (in_bounds self pages ≡ false)
             (λ size. (in_bounds self pages ≡ true) × (size ≡ pages * page_bytes self.page)) }
     {
         if pages > self.maximum.unwrap_or(most_pages(self.index, self.page)) {
@@ -210,9 +206,7 @@ pub(crate) fn is_no_looser(own: Option<u64>, other: Option<u64>) -> bool
     other.is_none_or(|most| own.is_some_and(|maximum| maximum <= most))
 }
 
-/// Builds a [`MemoryType`] step by step.
-///
-/// Upstream: `wasmi_core::MemoryTypeBuilder`.
+/// Builds a [`MemoryType`] step by step. Upstream: `wasmi_core::MemoryTypeBuilder`.
 #[derive(Drop)]
 pub struct MemoryTypeBuilder {
     index: IndexType,
@@ -282,10 +276,8 @@ impl MemoryTypeBuilder {
     /// `InvalidMemoryType` for a page size other than 1 byte and 64 KiB, for limits above what the
     /// address type reaches, and for a minimum above the maximum.
     pub fn build(self) -> Result<MemoryType, MemoryError>
-        ensures { MatchResult result
-            (λ ty. (named_type self ≡ Some ty) × IsValid ty)
-            (λ error. (error ≡ MemoryError.InvalidMemoryType)
-            × ¬ (IsSomeAnd (named_type self) IsValid)) }
+        ensures { MatchResult result (λ ty. (named_type self ≡ Some ty) × IsValid ty)
+            (λ e. (e ≡ MemoryError.InvalidMemoryType) × ¬ (IsSomeAnd (named_type self) IsValid)) }
     {
         let Some(page) = PageSize::from_log2(self.page_size_log2) else {
             return Err(MemoryError::InvalidMemoryType);

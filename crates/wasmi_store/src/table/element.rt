@@ -8,9 +8,8 @@ use std::marker::Model;
 use wasmi_raw::RawRef;
 use wasmi_types::RefType;
 
-/// Why an element segment cannot be made.
-///
-/// Own: upstream panics above 2^32 - 1 items, and ends the process if it is out of memory.
+/// Why an element segment cannot be made. Own: upstream panics above 2^32 - 1 items, and ends the
+/// process if it is out of memory.
 #[derive(Debug, PartialEq, Eq, Drop)]
 pub enum SegmentError {
     /// There are 2^32 items or more.
@@ -45,9 +44,8 @@ impl fmt::Display for SegmentError {
 
 impl std::error::Error for SegmentError {}
 
-/// References of one type, at most 2^32 - 1 of them.
-///
-/// Core specification, element instances. Upstream: `wasmi_core::ElementSegment`.
+/// References of one type, at most 2^32 - 1 of them. Core specification, element instances.
+/// Upstream: `wasmi_core::ElementSegment`.
 #[derive(Debug, Drop)]
 pub struct ElementSegment {
     ty: RefType,
@@ -65,9 +63,8 @@ impl Model for ElementSegment {
     ghost invariant = { λ segment. IsKept segment.items.items (vec_capacity segment.items) };
 }
 
-/// A shared reference to the items of an element segment, with their type.
-///
-/// Upstream: `wasmi_core::ElementSegmentRef`.
+/// A shared reference to the items of an element segment, with their type. Upstream:
+/// `wasmi_core::ElementSegmentRef`.
 #[derive(Clone, Copy, Debug)]
 pub struct ElementSegmentRef<'a> {
     ty: RefType,
@@ -82,13 +79,8 @@ impl ElementSegment {
     ghost use Rattle.wasmi_types.specs.Reading.{EachBecomes};
     ghost use Rattle.wasmi_store.specs.Segment.{IsReading, IsReadingOf, segment_of, dropped};
 
-    /// A segment of references of a type, read from an iterator as `read` does.
-    ///
-    /// Upstream: `ElementSegment::new`, which panics above 2^32 - 1 items.
-    ///
-    /// # Errors
-    ///
-    /// Those of `read`.
+    /// A segment of references of a type, read from an iterator as `read` does. Upstream:
+    /// `ElementSegment::new`, which panics above 2^32 - 1 items.
     pub fn new<I>(alloc: Global, ty: RefType, items: I) -> Result<Self, SegmentError>
     where
         I: IntoIterator<Item = RawRef>,
@@ -100,13 +92,8 @@ impl ElementSegment {
     }
 
     /// Reads references of a type up to the first `None`, which counts as the end. It reads at most
-    /// 2^32 items, and none after the end or after an error.
-    ///
-    /// Own: `new` takes its iterator by value, so its contract can't say what is left of it.
-    ///
-    /// # Errors
-    ///
-    /// `TooManyItems` at item 2^32; `OutOfSystemMemory` at the item for which memory is refused.
+    /// 2^32 items, and none after the end or after an error. Own: `new` takes its iterator by
+    /// value, so its contract can't say what is left of it.
     pub fn read<I>(alloc: Global, ty: RefType, items: &mut I) -> Result<Self, SegmentError>
     where
         I: Iterator<Item = RawRef>,

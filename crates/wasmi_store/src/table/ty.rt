@@ -9,9 +9,8 @@ use std::marker::Model;
 use wasmi_meter::TableError;
 use wasmi_types::{IndexType, RefType};
 
-/// The type of a table: its index and element types, minimum and optional maximum in elements.
-///
-/// Core specification, table types. Upstream: `wasmi_core::TableType`.
+/// The type of a table: its index and element types, minimum and optional maximum in elements. Core
+/// specification, table types. Upstream: `wasmi_core::TableType`.
 #[derive(Clone, Copy, Debug, PartialEq, Eq)]
 pub struct TableType {
     index: IndexType,
@@ -114,10 +113,8 @@ impl TableType {
 
     /// Returns `Ok` if references of a type are elements of this type.
     pub fn ensure_element_type_matches(self, ty: RefType) -> Result<(), TableError>
-        ensures { MatchResult result
-            (λ _. same_type self.element ty ≡ true)
-            (λ error. (error ≡ TableError.ElementTypeMismatch)
-            × (same_type self.element ty ≡ false)) }
+        ensures { MatchResult result (λ _. same_type self.element ty ≡ true)
+            (λ e. (e ≡ TableError.ElementTypeMismatch) × (same_type self.element ty ≡ false)) }
     {
         if self.element != ty {
             return Err(TableError::ElementTypeMismatch);
@@ -125,7 +122,6 @@ impl TableType {
         Ok(())
     }
 
-    /// The type with another minimum.
     pub(super) fn with_minimum(self, minimum: u64) -> Self
         requires indexable { is_indexable self minimum ≡ true }
         requires within { is_within_maximum self minimum ≡ true }
@@ -136,8 +132,7 @@ impl TableType {
 
     /// The number of elements after a growth, if there are more indices than elements.
     pub fn grown_size(self, size: u64, delta: u64) -> Option<usize>
-        ensures { MatchOption result
-            (is_indexable self (size + delta) ≡ false)
+        ensures { MatchOption result (is_indexable self (size + delta) ≡ false)
             (λ grown. (is_indexable self (size + delta) ≡ true) × (grown ≡ size + delta)) }
     {
         let grown = size.checked_add(delta)?;

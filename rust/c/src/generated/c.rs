@@ -198,7 +198,7 @@ pub mod instruction {
         use crate::generated::c::instruction::list::numbered;
         use crate::generated::c::instruction::numbers::BINARY_INSTRUCTIONS;
         use crate::generated::c::instruction::result::{
-            InstructionResult, Refusal, leave, op_or_return, result_of,
+            InstructionResult, Refusal, leave, result_of,
         };
         use crate::generated::c::instruction::rows::by_digit;
         use crate::generated::c::status::DONE;
@@ -274,7 +274,9 @@ pub mod instruction {
         /// ```
         #[inline]
         pub fn binary_by_number(number: u16, a: RawVal, b: RawVal, value: &mut RawVal) -> u8 {
-            op_or_return!(op, binary_numbered(number).ok_or(Refusal::Unknown));
+            let Some(op) = binary_numbered(number) else {
+                return Refusal::Unknown.into();
+            };
             leave(op.apply(a, b), value)
         }
 
@@ -363,7 +365,9 @@ pub mod instruction {
             b: &[RawVal],
             results: &mut [InstructionResult],
         ) -> u8 {
-            op_or_return!(op, binary_numbered(HIGH * 16 + LOW).ok_or(Refusal::Unknown));
+            let Some(op) = binary_numbered(HIGH * 16 + LOW) else {
+                return Refusal::Unknown.into();
+            };
             op.each(a, b, results)
         }
     }
@@ -390,7 +394,9 @@ pub mod instruction {
         /// ```
         #[inline]
         pub fn extraction(number: u16, lane: u8) -> Result<ExtractOp, Refusal> {
-            let kind = op_numbered(&EXTRACTIONS, number).ok_or(Refusal::Unknown)?;
+            let Some(kind) = op_numbered(&EXTRACTIONS, number) else {
+                return Err(Refusal::Unknown);
+            };
             kind.on(lane).ok_or(Refusal::NoLane)
         }
 
@@ -403,7 +409,9 @@ pub mod instruction {
         /// ```
         #[inline]
         pub fn replacement(number: u16, lane: u8) -> Result<ReplaceOp, Refusal> {
-            let kind = op_numbered(&REPLACEMENTS, number).ok_or(Refusal::Unknown)?;
+            let Some(kind) = op_numbered(&REPLACEMENTS, number) else {
+                return Err(Refusal::Unknown);
+            };
             kind.on(lane).ok_or(Refusal::NoLane)
         }
 
@@ -416,7 +424,9 @@ pub mod instruction {
         /// ```
         #[inline]
         pub fn lane_load(number: u16, lane: u8) -> Result<LoadLaneOp, Refusal> {
-            let kind = op_numbered(&LANE_LOADS, number).ok_or(Refusal::Unknown)?;
+            let Some(kind) = op_numbered(&LANE_LOADS, number) else {
+                return Err(Refusal::Unknown);
+            };
             kind.on(lane).ok_or(Refusal::NoLane)
         }
 
@@ -429,7 +439,9 @@ pub mod instruction {
         /// ```
         #[inline]
         pub fn lane_store(number: u16, lane: u8) -> Result<StoreLaneOp, Refusal> {
-            let kind = op_numbered(&LANE_STORES, number).ok_or(Refusal::Unknown)?;
+            let Some(kind) = op_numbered(&LANE_STORES, number) else {
+                return Err(Refusal::Unknown);
+            };
             kind.on(lane).ok_or(Refusal::NoLane)
         }
 
@@ -627,9 +639,9 @@ pub mod instruction {
         use crate::generated::c::instruction::list::numbered;
         use crate::generated::c::instruction::numbers::{LOAD_INSTRUCTIONS, load_numbers};
         use crate::generated::c::instruction::result::{
-            InstructionResult, Refusal, leave, op_or_return, result_of,
+            InstructionResult, Refusal, leave, result_of,
         };
-        use crate::generated::c::instruction::rows::part_once;
+        use crate::generated::c::instruction::rows::{by_digit, part_once};
         use crate::generated::c::status::DONE;
         use crate::proved::ops::{LoadOp, VectorLoadOp};
         use crate::proved::raw::RawVal;
@@ -711,7 +723,9 @@ pub mod instruction {
             offset: u64,
             value: &mut RawVal,
         ) -> u8 {
-            op_or_return!(op, load_numbered(number).ok_or(Refusal::Unknown));
+            let Some(op) = load_numbered(number) else {
+                return Refusal::Unknown.into();
+            };
             leave(load_by_op(op, memory, ptr, offset), value)
         }
 
@@ -749,16 +763,74 @@ pub mod instruction {
             offset: u64,
             results: &mut [InstructionResult],
         ) -> u8 {
-            op_or_return!(op, load_numbered(number).ok_or(Refusal::Unknown));
-            // The load is looked at once, and not at each element.
-            match op {
-                Load::Scalar(op) => {
-                    load_numbers!(part_once! Scalar [op Load each(memory, ptrs, offset, results)])
-                }
-                Load::Vector(op) => {
-                    load_numbers!(part_once! Vector [op Load each(memory, ptrs, offset, results)])
-                }
+            // The number is looked at once, and not at each element.
+            each_by_digits(number / 16, number % 16, memory, ptrs, offset, results)
+        }
+
+        // A row has sixteen numbers: instructions past the last row take an arm more.
+        /// # Contract
+        ///
+        /// ```text
+        /// requires high: high < 4096
+        /// requires low: low < 16
+        /// ensures outcome: Leaves (load_results (high * 16 + low) memory.now ptrs.now offset
+        ///     (length results.old)) results.old results.new result
+        /// ```
+        #[inline]
+        fn each_by_digits(
+            high: u16,
+            low: u16,
+            memory: &[u8],
+            ptrs: &[u64],
+            offset: u64,
+            results: &mut [InstructionResult],
+        ) -> u8 {
+            match high {
+                0 => each_in_row::<0>(low, memory, ptrs, offset, results),
+                1 => each_in_row::<1>(low, memory, ptrs, offset, results),
+                _ => Refusal::Unknown.into(),
             }
+        }
+
+        /// # Contract
+        ///
+        /// ```text
+        /// requires high: HIGH < 4096
+        /// requires low: low < 16
+        /// ensures outcome: Leaves (load_results (HIGH * 16 + low) memory.now ptrs.now offset
+        ///     (length results.old)) results.old results.new result
+        /// ```
+        #[inline]
+        fn each_in_row<const HIGH: u16>(
+            low: u16,
+            memory: &[u8],
+            ptrs: &[u64],
+            offset: u64,
+            results: &mut [InstructionResult],
+        ) -> u8 {
+            by_digit!(low, each_at[HIGH](memory, ptrs, offset, results))
+        }
+
+        // The code of each number has its own loop.
+        /// # Contract
+        ///
+        /// ```text
+        /// requires high: HIGH < 4096
+        /// requires low: LOW < 16
+        /// ensures outcome: Leaves (load_results (HIGH * 16 + LOW) memory.now ptrs.now offset
+        ///     (length results.old)) results.old results.new result
+        /// ```
+        #[inline(always)]
+        fn each_at<const HIGH: u16, const LOW: u16>(
+            memory: &[u8],
+            ptrs: &[u64],
+            offset: u64,
+            results: &mut [InstructionResult],
+        ) -> u8 {
+            let Some(op) = load_numbered(HIGH * 16 + LOW) else {
+                return Refusal::Unknown.into();
+            };
+            op.each(memory, ptrs, offset, results)
         }
     }
     pub mod numbers {
@@ -876,8 +948,7 @@ pub mod instruction {
         use crate::proved::raw::{RawVal, V128};
         use crate::proved::types::TrapCode;
 
-        /// Names the instruction that is found; where it isn't, the function that this is written in returns
-        /// the status of the refusal.
+        /// Names the instruction that is found, or returns the refusal's status from the function it is in.
         macro_rules! op_or_return {
             ($op:ident, $found:expr) => {
                 let $op = match $found {
@@ -1115,7 +1186,7 @@ pub mod instruction {
     pub mod shuffle {
         //! The shuffle of the bytes of two vectors.
 
-        use crate::generated::c::instruction::result::{Refusal, leave_vector, op_or_return};
+        use crate::generated::c::instruction::result::{Refusal, leave_vector};
         use crate::proved::lanes::ImmLaneIdx32;
         use crate::proved::lanewise::simd;
         use crate::proved::raw::RawVal;
@@ -1146,7 +1217,9 @@ pub mod instruction {
         /// ```
         #[inline]
         pub fn shuffle(a: RawVal, b: RawVal, indices: [u8; 16], value: &mut RawVal) -> u8 {
-            op_or_return!(lanes, lanes_of(indices).ok_or(Refusal::NoLane));
+            let Some(lanes) = lanes_of(indices) else {
+                return Refusal::NoLane.into();
+            };
             leave_vector(Ok(simd::i8x16_shuffle(a.into(), b.into(), lanes)), value)
         }
     }
@@ -1155,7 +1228,7 @@ pub mod instruction {
 
         use crate::generated::c::instruction::list::numbered;
         use crate::generated::c::instruction::numbers::STORE_INSTRUCTIONS;
-        use crate::generated::c::instruction::result::{Refusal, op_or_return, status_of};
+        use crate::generated::c::instruction::result::{Refusal, status_of};
         use crate::proved::ops::StoreOp;
         use crate::proved::raw::RawVal;
         use crate::proved::types::TrapCode;
@@ -1224,7 +1297,9 @@ pub mod instruction {
             offset: u64,
             value: RawVal,
         ) -> u8 {
-            op_or_return!(op, store_numbered(number).ok_or(Refusal::Unknown));
+            let Some(op) = store_numbered(number) else {
+                return Refusal::Unknown.into();
+            };
             status_of(op.store(memory, ptr, offset, value))
         }
     }
@@ -1232,7 +1307,7 @@ pub mod instruction {
         //! The instructions of three vectors.
 
         use crate::generated::c::instruction::list::op_numbered;
-        use crate::generated::c::instruction::result::{Refusal, leave, op_or_return};
+        use crate::generated::c::instruction::result::{Refusal, leave};
         use crate::generated::c::status::DONE;
         use crate::proved::ops::{TERNARIES, TernaryOp};
         use crate::proved::raw::RawVal;
@@ -1275,7 +1350,9 @@ pub mod instruction {
             c: RawVal,
             value: &mut RawVal,
         ) -> u8 {
-            op_or_return!(op, ternary_numbered(number).ok_or(Refusal::Unknown));
+            let Some(op) = ternary_numbered(number) else {
+                return Refusal::Unknown.into();
+            };
             leave(Ok(apply(op, a, b, c)), value)
         }
 
@@ -1295,7 +1372,9 @@ pub mod instruction {
             c: &[RawVal],
             values: &mut [RawVal],
         ) -> u8 {
-            op_or_return!(op, ternary_numbered(number).ok_or(Refusal::Unknown));
+            let Some(op) = ternary_numbered(number) else {
+                return Refusal::Unknown.into();
+            };
             each(op, a, b, c, values)
         }
 
@@ -1327,7 +1406,7 @@ pub mod instruction {
 
         use crate::generated::c::instruction::list::numbered;
         use crate::generated::c::instruction::numbers::UNARY_INSTRUCTIONS;
-        use crate::generated::c::instruction::result::{Refusal, leave, op_or_return};
+        use crate::generated::c::instruction::result::{Refusal, leave};
         use crate::generated::c::instruction::rows::by_digit;
         use crate::generated::c::status::DONE;
         use crate::proved::ops::{MakeOp, TestOp, UnaryOp};
@@ -1404,7 +1483,9 @@ pub mod instruction {
         /// ```
         #[inline]
         pub fn unary_by_number(number: u16, a: RawVal, value: &mut RawVal) -> u8 {
-            op_or_return!(op, unary_numbered(number).ok_or(Refusal::Unknown));
+            let Some(op) = unary_numbered(number) else {
+                return Refusal::Unknown.into();
+            };
             leave(Ok(op.apply(a)), value)
         }
 
@@ -1465,7 +1546,9 @@ pub mod instruction {
         /// ```
         #[inline(always)]
         fn each_at<const HIGH: u16, const LOW: u16>(a: &[RawVal], values: &mut [RawVal]) -> u8 {
-            op_or_return!(op, unary_numbered(HIGH * 16 + LOW).ok_or(Refusal::Unknown));
+            let Some(op) = unary_numbered(HIGH * 16 + LOW) else {
+                return Refusal::Unknown.into();
+            };
             op.each(a, values)
         }
     }
@@ -1568,9 +1651,9 @@ pub mod machine {
             #[inline]
             pub fn call(&self) -> Option<Call> {
                 Some(match self.kind {
-                    LOAD => self.load_call()?,
-                    STORE => self.store_call()?,
-                    BINARY => self.binary_call()?,
+                    LOAD => return self.load_call(),
+                    STORE => return self.store_call(),
+                    BINARY => return self.binary_call(),
                     // What tools/generate writes begins.
                     0 => Call::SetFuel(self.count),
                     1 => Call::GetFuel,
@@ -1704,7 +1787,7 @@ pub mod machine {
             #[inline]
             fn value_call(&self) -> Option<Call> {
                 Some(match self.kind {
-                    23 => self.unary_call()?,
+                    23 => return self.unary_call(),
                     // What tools/generate writes begins.
                     18 => Call::NewGlobal {
                         value: self.value,
@@ -1748,8 +1831,6 @@ pub mod machine {
                 })
             }
 
-            /// A load of an item or of a vector.
-            ///
             /// # Contract
             ///
             /// ```text
@@ -1775,8 +1856,6 @@ pub mod machine {
                 })
             }
 
-            /// A store of an item or of a vector.
-            ///
             /// # Contract
             ///
             /// ```text
@@ -1840,8 +1919,6 @@ pub mod machine {
                 }
             }
 
-            /// The reference with its type.
-            ///
             /// # Contract
             ///
             /// ```text
@@ -1855,8 +1932,6 @@ pub mod machine {
                 ))
             }
 
-            /// The type of a memory, if there is such a type.
-            ///
             /// # Contract
             ///
             /// ```text
@@ -1868,8 +1943,6 @@ pub mod machine {
                 memory_type(self.count, maximum, self.is_64, self.page_size_log2)
             }
 
-            /// The type of a table, if there is such a type.
-            ///
             /// # Contract
             ///
             /// ```text
@@ -1881,8 +1954,6 @@ pub mod machine {
                 table_type(self.ty, self.count, maximum, self.is_64)
             }
 
-            /// The lowest byte of the value.
-            ///
             /// # Contract
             ///
             /// ```text
@@ -1893,8 +1964,6 @@ pub mod machine {
                 (self.value.lo % 256) as u8
             }
 
-            /// Whether a global can be written.
-            ///
             /// # Contract
             ///
             /// ```text
@@ -2002,13 +2071,14 @@ pub mod machine {
         $crate::on_machine!($handle, ReplyStruct::only(NO_MACHINE), $machine => $call)
     };
     ($handle:expr, $none:expr, $machine:ident => $call:expr) => {{
-        if !$handle.is_made() {
-            return $none;
+        if $handle.is_made() {
+            let $machine = $handle.machine.machine_mut();
+            let reply = $call;
+            $machine.show_within();
+            reply
+        } else {
+            $none
         }
-        let $machine = $handle.machine.machine_mut();
-        let reply = $call;
-        $machine.show_within();
-        reply
     }};
 }
 
@@ -2249,8 +2319,6 @@ pub mod machine {
                 self.machine.step_lending(call, &mut self.limiter)
             }
 
-            /// Replies to one call, with the reply as a struct.
-            ///
             /// # Contract
             ///
             /// ```text
@@ -2308,7 +2376,8 @@ pub mod machine {
             /// # Contract
             ///
             /// ```text
-            /// ensures step: RepliesToList calls.now replies.old self.old (result, replies.new) self.new
+            /// ensures step: RepliesInTurn RepliesToStruct calls.now replies.old self.old
+            ///     (result, replies.new) self.new
             /// ensures caps: caps_of self.new.limiter ≡ caps_of self.old.limiter
             /// ```
             #[inline]
@@ -2338,8 +2407,7 @@ pub mod machine {
                 }
             }
 
-            /// Reserves memory for so many elements in all of a table. If the memory is refused, nothing has
-            /// changed.
+            /// Reserves memory for so many elements in all of a table, or changes nothing if it is refused.
             ///
             /// # Contract
             ///
@@ -2376,8 +2444,6 @@ pub mod machine {
                 }
             }
 
-            /// Loads an item.
-            ///
             /// # Contract
             ///
             /// ```text
@@ -2484,8 +2550,6 @@ pub mod machine {
                 leave(self.grow_memory(memory, pages), number)
             }
 
-            /// Grows a memory by so many pages.
-            ///
             /// # Contract
             ///
             /// ```text
@@ -2525,8 +2589,7 @@ pub mod machine {
                 leave(self.reply(&call), number)
             }
 
-            /// Copies a range of a memory to another one, or within it, and leaves a status and a word of
-            /// the reply.
+            /// Copies a range of a memory to another or within it; leaves a status and a word of the reply.
             ///
             /// # Contract
             ///
@@ -2786,9 +2849,8 @@ pub mod machine {
         /// # Contract
         ///
         /// ```text
-        /// ensures: MatchResult result
-        ///     (λ script. WritesScript lines.now script × (script.header ≡ no_header))
-        ///     (λ refusal. RefusesLines lines.now refusal)
+        /// ensures: MatchResult result (λ script. WritesScript lines.now script
+        ///     × (script.header ≡ no_header)) (λ refusal. RefusesLines lines.now refusal)
         /// ```
         #[inline]
         pub(crate) fn headless(lines: &[u8]) -> Result<Script, ReplyStruct> {
@@ -2981,8 +3043,6 @@ pub mod machine {
             Ok(answers)
         }
 
-        /// The answer that a number below 4 stands for.
-        ///
         /// # Contract
         ///
         /// ```text
@@ -3217,6 +3277,10 @@ pub mod memory {
 
     /// Makes a memory of this type under a limiter, as [`memory::make`](crate::proved::region::memory::make) does.
     ///
+    /// # Errors
+    ///
+    /// In the order of the tests: [`MinimumSizeOverflow`](crate::MemoryError::MinimumSizeOverflow) if the minimum has 2^64 bytes or more; [`ResourceLimiterDeniedAllocation`](crate::MemoryError::ResourceLimiterDeniedAllocation) if the limiter doesn't permit it; [`InvalidStaticBufferSize`](crate::MemoryError::InvalidStaticBufferSize) if the region is shorter than the minimum, of which the limiter is notified. After an error the bytes of the region are unchanged.
+    ///
     /// # Contract
     ///
     /// ```text
@@ -3273,8 +3337,7 @@ pub mod memory {
     ///
     /// ```text
     /// ensures made: MakesEmbedded (placed memory.old region.now) (limiter_of quota.old) result
-    ///     (placed memory.new (made_over region.now memory.new.size result))
-    ///     (limiter_of quota.new)
+    ///     (placed memory.new (made_over region.now memory.new.size result)) (limiter_of quota.new)
     /// ensures quota: KeepsQuota quota.old quota.new
     /// ensures invalid: IsNoType memory.old → quota.new ≡ quota.old
     /// ensures unasked: (ty : MemoryTypeValue) → named_type (settings_of memory.old) ≡ Some ty
@@ -3295,6 +3358,10 @@ pub mod memory {
     }
 
     /// Makes a memory of this type under a limiter in zeros, as [`memory::make_zeroed`](crate::proved::region::memory::make_zeroed).
+    ///
+    /// # Errors
+    ///
+    /// In the order of the tests: [`MinimumSizeOverflow`](crate::MemoryError::MinimumSizeOverflow) if the minimum has 2^64 bytes or more; [`ResourceLimiterDeniedAllocation`](crate::MemoryError::ResourceLimiterDeniedAllocation) if the limiter doesn't permit it; [`InvalidStaticBufferSize`](crate::MemoryError::InvalidStaticBufferSize) if the region is shorter than the minimum, of which the limiter is notified. After an error the bytes of the region are unchanged.
     ///
     /// # Contract
     ///
@@ -3525,7 +3592,7 @@ pub mod memory {
     /// ```text
     /// requires state: IsState memory.now region.now ty
     /// ensures about: result ≡ is_about answers.now
-    ///     (memory_growth (memory_in ty region.now memory.now.size) pages)
+    ///     (memory_growth pages (memory_in ty region.now memory.now.size))
     /// ```
     #[inline]
     fn are_about(
@@ -3608,8 +3675,7 @@ pub mod memory {
     ///
     /// ```text
     /// ensures: WritesBytesEmbedded (filled_range value) range.now memory.now
-    ///     (metered_region region.old meter.old number.old) result
-    ///     (metered_region region.new meter.new number.new)
+    ///     (metered region.old meter.old number.old) result (metered region.new meter.new number.new)
     /// ```
     #[inline]
     pub fn fill(
@@ -3634,8 +3700,7 @@ pub mod memory {
     ///
     /// ```text
     /// ensures: WritesBytesEmbedded (λ r bytes. copied_range bytes r bytes) range.now memory.now
-    ///     (metered_region region.old meter.old number.old) result
-    ///     (metered_region region.new meter.new number.new)
+    ///     (metered region.old meter.old number.old) result (metered region.new meter.new number.new)
     /// ```
     #[inline]
     pub fn copy_within(
@@ -3660,8 +3725,7 @@ pub mod memory {
     ///
     /// ```text
     /// ensures: CopiesBytesEmbedded (placed source.now source_region.now) range.now memory.now
-    ///     (metered_region region.old meter.old number.old) result
-    ///     (metered_region region.new meter.new number.new)
+    ///     (metered region.old meter.old number.old) result (metered region.new meter.new number.new)
     /// ```
     #[inline]
     pub fn copy(
@@ -3684,8 +3748,7 @@ pub mod memory {
     ///
     /// ```text
     /// ensures: WritesBytesEmbedded (copied_range bytes.now) range.now memory.now
-    ///     (metered_region region.old meter.old number.old) result
-    ///     (metered_region region.new meter.new number.new)
+    ///     (metered region.old meter.old number.old) result (metered region.new meter.new number.new)
     /// ```
     #[inline]
     pub fn init(
@@ -3706,7 +3769,8 @@ pub mod memory {
     }
 }
 pub mod numbers {
-    //! The plain numbers of memories, tables, meters, quotas and ranges that lie with C: any numbers.
+    //! The plain numbers of memories, tables, meters, quotas and ranges that lie with C, any numbers,
+    //! and what each of them stands for.
 
     use crate::generated::c::types;
     use crate::proved::meter::{
@@ -3767,8 +3831,7 @@ pub mod numbers {
         /// # Contract
         ///
         /// ```text
-        /// ensures: MatchOption result
-        ///     ((ty : MemoryTypeValue) → IsState self.now region.now ty → ⊥)
+        /// ensures: MatchOption result ((ty : MemoryTypeValue) → IsState self.now region.now ty → ⊥)
         ///     (λ ty. IsState self.now region.now ty)
         /// ```
         #[must_use]
@@ -3818,8 +3881,7 @@ pub mod numbers {
         /// # Contract
         ///
         /// ```text
-        /// ensures: MatchOption result
-        ///     ((ty : TableTypeValue) → IsTable self.now region.now ty → ⊥)
+        /// ensures: MatchOption result ((ty : TableTypeValue) → IsTable self.now region.now ty → ⊥)
         ///     (λ ty. IsTable self.now region.now ty)
         /// ```
         #[must_use]
@@ -3914,7 +3976,7 @@ pub mod numbers {
     }
 
     impl QuotaNumbers {
-        /// The quota, if there is one.
+        /// The quota that these numbers stand for, if there is a limiter.
         ///
         /// # Contract
         ///
@@ -4086,13 +4148,14 @@ pub mod pool {
         $crate::on_pool!($handle, ReplyStruct::only(NO_POOL), $pool => $call)
     };
     ($handle:expr, $none:expr, $pool:ident => $call:expr) => {{
-        if !$handle.is_made() {
-            return $none;
+        if $handle.is_made() {
+            let $pool = $handle.pool.pool_mut();
+            let reply = $call;
+            $pool.show_within();
+            reply
+        } else {
+            $none
         }
-        let $pool = $handle.pool.pool_mut();
-        let reply = $call;
-        $pool.show_within();
-        reply
     }};
 }
 
@@ -4322,8 +4385,7 @@ pub mod pool {
             DONE
         }
 
-        /// Reserves so many more slots of each kind on the machine of a tenant. If memory for some is
-        /// refused, none more is.
+        /// Reserves so many more slots of each kind on a tenant's machine, or none if some are refused.
         ///
         /// # Contract
         ///
@@ -4357,8 +4419,6 @@ pub mod pool {
             }
         }
 
-        /// Loads an item from a memory of a tenant.
-        ///
         /// # Contract
         ///
         /// ```text
@@ -4381,8 +4441,6 @@ pub mod pool {
             }
         }
 
-        /// Stores an item to a memory of a tenant.
-        ///
         /// # Contract
         ///
         /// ```text
@@ -4410,8 +4468,6 @@ pub mod pool {
             self.reply(tenant, &call)
         }
 
-        /// Replies to one call on the machine of a tenant.
-        ///
         /// # Contract
         ///
         /// ```text
@@ -4607,8 +4663,7 @@ pub mod pool {
                 .status
         }
 
-        /// Executes the instruction on two vectors that has the number, if there is one, on the machine
-        /// of a tenant.
+        /// Executes the instruction on two vectors that has the number, if any, on a tenant's machine.
         ///
         /// # Contract
         ///
@@ -4659,8 +4714,7 @@ pub mod pool {
             }
         }
 
-        /// Fills a range of a memory of a tenant with a byte, and leaves a status and a word of the
-        /// reply.
+        /// Fills a range of a tenant's memory with a byte, and leaves a status and a word of the reply.
         ///
         /// # Contract
         ///
@@ -5007,8 +5061,7 @@ pub mod script {
     use crate::rattle::Vec;
 
     /// Runs a script, and writes what it prints to the front of `text`; `needed` becomes its length in
-    /// bytes. The status is the program's (docs/SCRIPT.md), or 5 if `text` is shorter: then nothing is
-    /// written to it.
+    /// bytes. The status is the program's (docs/SCRIPT.md), or 5 if `text` is shorter, which stays.
     ///
     /// # Contract
     ///
@@ -5243,6 +5296,10 @@ pub mod table {
 
     /// Makes a table of this type under a limiter, as [`table::make`](crate::proved::region::table::make) does.
     ///
+    /// # Errors
+    ///
+    /// In the order of the tests: [`MinimumSizeOverflow`](crate::TableError::MinimumSizeOverflow) if `usize` has 32 bits and the minimum more; [`ResourceLimiterDeniedAllocation`](crate::TableError::ResourceLimiterDeniedAllocation) if the limiter doesn't permit it; [`OutOfSystemMemory`](crate::TableError::OutOfSystemMemory) if the region is shorter than the minimum, of which the limiter is notified. After an error the region is unchanged.
+    ///
     /// # Contract
     ///
     /// ```text
@@ -5349,8 +5406,7 @@ pub mod table {
     /// ensures quota: KeepsQuota quota.old quota.new
     /// ensures invalid: IsNone of_table table.old region.old → quota.new ≡ quota.old
     /// ensures unasked: (ty : TableTypeValue) → IsTable table.old region.old ty
-    ///     → (delta ≡ 0) ⊎ (is_indexable ty (table.old.size + delta) ≡ false)
-    ///     → quota.new ≡ quota.old
+    ///     → (delta ≡ 0) ⊎ (is_indexable ty (table.old.size + delta) ≡ false) → quota.new ≡ quota.old
     /// ```
     #[inline]
     pub fn grow(
@@ -5539,8 +5595,8 @@ pub mod table {
     ///
     /// ```text
     /// ensures: WritesTableEmbedded (λ ty. raw_filling_of range.now.to reference range.now.count)
-    ///     table.now (metered_region region.old meter.old number.old) result
-    ///     (metered_region region.new meter.new number.new)
+    ///     table.now (metered region.old meter.old number.old) result
+    ///     (metered region.new meter.new number.new)
     /// ```
     #[inline]
     pub fn fill(
@@ -5566,8 +5622,8 @@ pub mod table {
     /// ```text
     /// ensures: WritesTableEmbedded (λ ty. copy_of range.now.to range.now.from range.now.count
     ///     (table_in ty region.old table.now.size))
-    ///     table.now (metered_region region.old meter.old number.old) result
-    ///     (metered_region region.new meter.new number.new)
+    ///     table.now (metered region.old meter.old number.old) result
+    ///     (metered region.new meter.new number.new)
     /// ```
     #[inline]
     pub fn copy_within(
@@ -5592,8 +5648,7 @@ pub mod table {
     ///
     /// ```text
     /// ensures: CopiesEmbedded (placed source.now source_region.now) range.now table.now
-    ///     (metered_region region.old meter.old number.old) result
-    ///     (metered_region region.new meter.new number.new)
+    ///     (metered region.old meter.old number.old) result (metered region.new meter.new number.new)
     /// ```
     #[inline]
     pub fn copy(
@@ -5623,8 +5678,8 @@ pub mod table {
     /// ```text
     /// ensures: WritesTableEmbedded (λ ty. initialization_of range.now.to range.now.from
     ///     range.now.count (items_of ty items.now))
-    ///     table.now (metered_region region.old meter.old number.old) result
-    ///     (metered_region region.new meter.new number.new)
+    ///     table.now (metered region.old meter.old number.old) result
+    ///     (metered region.new meter.new number.new)
     /// ```
     #[inline]
     pub fn init(
@@ -5645,8 +5700,7 @@ pub mod table {
     }
 }
 pub mod types {
-    //! The types and meters that plain numbers stand for, and numbers that fit 32 bits or that a flag
-    //! says are there.
+    //! The types and meters of plain numbers; numbers that fit 32 bits or that a flag says are there.
 
     use crate::proved::meter::{CustomFuelCosts, Fuel, FuelCostsProvider};
     use crate::proved::store::{MemoryType, TableType};

@@ -681,7 +681,7 @@ mod machine {
     /// # Contract
     ///
     /// ```text
-    /// ensures: OnHeld (RepliesToList calls.now replies.old) (NO_MACHINE, replies.old)
+    /// ensures: OnHeld (RepliesInTurn RepliesToStruct calls.now replies.old) (NO_MACHINE, replies.old)
     ///     handle.old.machine.held (result, replies.new) handle.new.machine.held
     /// ```
     #[unsafe(no_mangle)]
@@ -779,7 +779,7 @@ mod machine {
     /// ```text
     /// ensures: OnHeld
     ///     (λ machine totals machine'. (machine' ≡ machine) × (totals ≡ totals_of machine))
-    ///     no_totals handle.old.machine.held result handle.new.machine.held
+    ///     (totals_in NO_MACHINE 0 0) handle.old.machine.held result handle.new.machine.held
     /// ```
     #[unsafe(no_mangle)]
     pub extern "C" fn wasmi_machine_totals(handle: &mut Handle) -> Totals {
@@ -1366,7 +1366,8 @@ mod machine {
     /// # Contract
     ///
     /// ```text
-    /// ensures step: ActsOnHeld no_pool_totals handle.old.pool.held result handle.new.pool.held
+    /// ensures step: ActsOnHeld (totals_in NO_POOL 0 0) handle.old.pool.held result
+    ///     handle.new.pool.held
     ///     (λ pool pool'. (pool' ≡ pool) × (result ≡ tenant_totals tenant pool))
     /// ensures caps: KeepsCaps handle.old.pool.held handle.new.pool.held
     /// ```
@@ -1378,7 +1379,8 @@ mod machine {
     /// # Contract
     ///
     /// ```text
-    /// ensures step: ActsOnHeld no_pool_totals handle.old.pool.held result handle.new.pool.held
+    /// ensures step: ActsOnHeld (totals_in NO_POOL 0 0) handle.old.pool.held result
+    ///     handle.new.pool.held
     ///     (λ pool pool'. (pool' ≡ pool) × (result ≡ pool_totals pool))
     /// ensures caps: KeepsCaps handle.old.pool.held handle.new.pool.held
     /// ```
@@ -1422,8 +1424,7 @@ mod memory {
     ///
     /// ```text
     /// ensures made: MakesEmbedded (placed memory.old region.now) (limiter_of quota.old) result
-    ///     (placed memory.new (made_over region.now memory.new.size result))
-    ///     (limiter_of quota.new)
+    ///     (placed memory.new (made_over region.now memory.new.size result)) (limiter_of quota.new)
     /// ensures quota: KeepsQuota quota.old quota.new
     /// ensures invalid: IsNoType memory.old → quota.new ≡ quota.old
     /// ensures unasked: (ty : MemoryTypeValue) → named_type (settings_of memory.old) ≡ Some ty
@@ -1618,8 +1619,7 @@ mod memory {
     ///
     /// ```text
     /// ensures: WritesBytesEmbedded (filled_range value) range.now memory.now
-    ///     (metered_region region.old meter.old number.old) result
-    ///     (metered_region region.new meter.new number.new)
+    ///     (metered region.old meter.old number.old) result (metered region.new meter.new number.new)
     /// ```
     #[unsafe(no_mangle)]
     pub unsafe extern "C" fn wasmi_memory_fill(
@@ -1640,8 +1640,7 @@ mod memory {
     ///
     /// ```text
     /// ensures: WritesBytesEmbedded (λ r bytes. copied_range bytes r bytes) range.now memory.now
-    ///     (metered_region region.old meter.old number.old) result
-    ///     (metered_region region.new meter.new number.new)
+    ///     (metered region.old meter.old number.old) result (metered region.new meter.new number.new)
     /// ```
     #[unsafe(no_mangle)]
     pub unsafe extern "C" fn wasmi_memory_copy_within(
@@ -1661,8 +1660,7 @@ mod memory {
     ///
     /// ```text
     /// ensures: CopiesBytesEmbedded (placed source.now source_region.now) range.now memory.now
-    ///     (metered_region region.old meter.old number.old) result
-    ///     (metered_region region.new meter.new number.new)
+    ///     (metered region.old meter.old number.old) result (metered region.new meter.new number.new)
     /// ```
     #[unsafe(no_mangle)]
     pub unsafe extern "C" fn wasmi_memory_copy(
@@ -1686,8 +1684,7 @@ mod memory {
     ///
     /// ```text
     /// ensures: WritesBytesEmbedded (copied_range bytes.now) range.now memory.now
-    ///     (metered_region region.old meter.old number.old) result
-    ///     (metered_region region.new meter.new number.new)
+    ///     (metered region.old meter.old number.old) result (metered region.new meter.new number.new)
     /// ```
     #[unsafe(no_mangle)]
     pub unsafe extern "C" fn wasmi_memory_init(
@@ -2668,8 +2665,7 @@ mod table {
     /// ensures quota: KeepsQuota quota.old quota.new
     /// ensures invalid: IsNone of_table table.old region.old → quota.new ≡ quota.old
     /// ensures unasked: (ty : TableTypeValue) → IsTable table.old region.old ty
-    ///     → (delta ≡ 0) ⊎ (is_indexable ty (table.old.size + delta) ≡ false)
-    ///     → quota.new ≡ quota.old
+    ///     → (delta ≡ 0) ⊎ (is_indexable ty (table.old.size + delta) ≡ false) → quota.new ≡ quota.old
     /// ```
     #[unsafe(no_mangle)]
     pub unsafe extern "C" fn wasmi_table_grow(
@@ -2806,8 +2802,8 @@ mod table {
     ///
     /// ```text
     /// ensures: WritesTableEmbedded (λ ty. raw_filling_of range.now.to reference range.now.count)
-    ///     table.now (metered_region region.old meter.old number.old) result
-    ///     (metered_region region.new meter.new number.new)
+    ///     table.now (metered region.old meter.old number.old) result
+    ///     (metered region.new meter.new number.new)
     /// ```
     #[unsafe(no_mangle)]
     pub unsafe extern "C" fn wasmi_table_fill(
@@ -2829,8 +2825,8 @@ mod table {
     /// ```text
     /// ensures: WritesTableEmbedded (λ ty. copy_of range.now.to range.now.from range.now.count
     ///     (table_in ty region.old table.now.size))
-    ///     table.now (metered_region region.old meter.old number.old) result
-    ///     (metered_region region.new meter.new number.new)
+    ///     table.now (metered region.old meter.old number.old) result
+    ///     (metered region.new meter.new number.new)
     /// ```
     #[unsafe(no_mangle)]
     pub unsafe extern "C" fn wasmi_table_copy_within(
@@ -2851,8 +2847,8 @@ mod table {
     /// ```text
     /// ensures: WritesTableEmbedded (λ ty. copy_of range.now.to range.now.from range.now.count
     ///     (table_in ty region.old table.now.size))
-    ///     table.now (metered_region region.old meter.old number.old) result
-    ///     (metered_region region.new meter.new number.new)
+    ///     table.now (metered region.old meter.old number.old) result
+    ///     (metered region.new meter.new number.new)
     /// ```
     #[unsafe(no_mangle)]
     pub unsafe extern "C" fn wasmi_table_copy(
@@ -2872,8 +2868,7 @@ mod table {
     ///
     /// ```text
     /// ensures: CopiesEmbedded (placed source.now source_region.now) range.now table.now
-    ///     (metered_region region.old meter.old number.old) result
-    ///     (metered_region region.new meter.new number.new)
+    ///     (metered region.old meter.old number.old) result (metered region.new meter.new number.new)
     /// ```
     #[unsafe(no_mangle)]
     pub unsafe extern "C" fn wasmi_table_copy_from(
@@ -2898,8 +2893,8 @@ mod table {
     /// ```text
     /// ensures: WritesTableEmbedded (λ ty. initialization_of range.now.to range.now.from
     ///     range.now.count (items_of ty items.now))
-    ///     table.now (metered_region region.old meter.old number.old) result
-    ///     (metered_region region.new meter.new number.new)
+    ///     table.now (metered region.old meter.old number.old) result
+    ///     (metered region.new meter.new number.new)
     /// ```
     #[unsafe(no_mangle)]
     pub unsafe extern "C" fn wasmi_table_init(

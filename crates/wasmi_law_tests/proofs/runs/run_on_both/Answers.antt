@@ -1,12 +1,13 @@
-use Rattle.wasmi_law_tests.proofs.RunsLemmas.{pools_same}
+use Rattle.wasmi_law_tests.proofs.RunsLemmas.{if_ok_too, pools_same}
 use Rattle.wasmi_law_tests.proofs.runs.run_on_both.Goals as goal
 
 pub returns : goal.returns
 returns c = record {
-  same = λ has.
-      let second = rw c.requires.pools at c.in_ok-second.ensures.ran in
+  same =
+      if_ok_too c.run-first.result c.run-first.ensures.ran (λ replies first.
+      if_ok_too c.run-second.result c.run-second.ensures.ran (λ replies' second has.
       pools_same c.replies_are_one.ensures c.tenants_leave_no_choice.ensures.choice c.tenants_leave_no_choice.ensures.notices
-      c.args.pool.now c.run.new.self c.run-2.new.self c.args.index c.args.calls.now
-      (record { replies = c.in_ok-first.first.items; has = has.0; ran = c.in_ok-first.ensures.ran })
-      (record { replies = c.in_ok-second.second.items; has = has.1; ran = second });
+      c.args.pool.now c.run-first.new.self c.run-second.new.self c.args.index c.args.calls.now
+      (record { replies = replies.items; has = has.0; ran = first })
+      (record { replies = replies'.items; has = has.1; ran = rw c.requires.pools at second })));
 }

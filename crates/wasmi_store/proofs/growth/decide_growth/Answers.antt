@@ -1,7 +1,8 @@
 use Rattle.std.proofs.Common.{◌∙◌, arith}
 use Rattle.wasmi_store.proofs.Common.{err_from_is_err_and, optional_rules}
 use Rattle.wasmi_store.proofs.GrowthLemmas.{loan_kept, growing, grows_denied, grows_late, grows_unpaid}
-use Rattle.wasmi_store.proofs.MemoryLemmas.{memory_growth, growth_permitted}
+use Rattle.wasmi_store.proofs.MemoryLemmas.{growth_permitted}
+use Rattle.wasmi_store.specs.Memory.{memory_growth}
 use Rattle.wasmi_store.proofs.growth.decide_growth.Goals as goal
 
 pub returns-in_err-permission-clause-refused : goal.returns-in_err-permission-clause-refused

@@ -1,6 +1,8 @@
-use Rattle.std.proofs.Common.{◌≡◌, ◌∙◌, refl}
+use Rattle.std.proofs.Common.{◌∙◌, refl}
 use Rattle.wasmi_meter.specs.declared.limiter.Kind.TheVariants.{Bytes, Elements}
-use Rattle.wasmi_budget.proofs.TenantLemmas.{all_before, of_error, part_fits, part_held}
+use Rattle.wasmi_budget.proofs.TenantLemmas.{all_before, part_fits, part_held}
+use Rattle.wasmi_budget.proofs.TenantsLemmas.{only_error}
+use Rattle.wasmi_budget.specs.declared.error.RunIntoError.TheVariants.{TooManyCalls}
 use Rattle.wasmi_budget.proofs.tenant.CountedMachine.run_into.Goals as goal
 
 pub new-tenant-requires : goal.new-tenant-requires
@@ -17,8 +19,5 @@ leave-requires c = record {
 }
 
 pub returns-in_err-run_into_reserving-clause-err : goal.returns-in_err-run_into_reserving-clause-err
-returns-in_err-run_into_reserving-clause-err c =
-    let told = c.in_err-run_into_reserving.ensures.err in
-    let err : (c.run_into_reserving.new.machine ≡ c.args.self.now) × (c.args.all.now ≡ c.args.all.now)
-    × (c.run_into_reserving.new.replies ≡ c.args.replies.now) = (told.0 ∙ c.self.view_is, refl, told.2) in
-    of_error _ err
+returns-in_err-run_into_reserving-clause-err c = rw (only_error TooManyCalls _ c.from_residual.ensures.1)
+    (refl, c.in_err-run_into_reserving.ensures.err.0 ∙ c.self.view_is, refl)

@@ -1,7 +1,7 @@
-use Rattle.std.proofs.Common.{refl, rules}
-use Rattle.wasmi_budget.specs.declared.error.RunIntoError.TheVariants.{NoTenant, TooManyCalls}
+use Rattle.std.proofs.Common.{refl}
+use Rattle.wasmi_budget.specs.declared.error.RunIntoError.TheVariants.{NoTenant}
 use Rattle.wasmi_budget.proofs.PoolLemmas.{is_part}
-use Rattle.wasmi_budget.proofs.TenantsLemmas.{found_err, found_ok, its_value, no_value, only_error, ran_at, value_put_back}
+use Rattle.wasmi_budget.proofs.TenantsLemmas.{its_value, no_value, on_err_both, run_at}
 use Rattle.wasmi_budget.proofs.tenants.Tenants.run_into.Goals as goal
 
 pub returns-in_default-clause-no_tenant : goal.returns-in_default-clause-no_tenant
@@ -16,35 +16,17 @@ run_into-requires c = record {
       c.in-Some.ensures.found c.index_mut-counted.ensures.value);
 }
 
-pub returns-in_err-run_into-clause-no_tenant : goal.returns-in_err-run_into-clause-no_tenant
-returns-in_err-run_into-clause-no_tenant c =
-    found_err _ (its_value c.self.invariant c.self.view_is c.deref.ensures.value _ _ c.in-Some.ensures.found
-    c.index_mut-counted.ensures.value) NoTenant TooManyCalls _ (λ same. absurd cc)
-    (only_error _ _ c.from_residual.ensures.1)
-
-pub returns-in_err-run_into-clause-refused : goal.returns-in_err-run_into-clause-refused
-returns-in_err-run_into-clause-refused c = rw (only_error TooManyCalls _ c.from_residual.ensures.1) (
-  value_put_back c.self.invariant c.self.view_is _ _ _ c.in_err-run_into.ensures.err.0
-      c.index_mut-counted.ensures.value,
-  c.in_err-run_into.ensures.err.2,
-)
-
-pub returns-in_err-run_into-clause-kept : goal.returns-in_err-run_into-clause-kept
-returns-in_err-run_into-clause-kept c =
-    let put = value_put_back c.self.invariant c.self.view_is _ _ _ c.in_err-run_into.ensures.err.0
-    c.index_mut-counted.ensures.value in
-    rw (put, c.in_err-run_into.ensures.err.1) c.requires.kept
-
 pub returns : goal.returns
 returns c =
-    let ran = ran_at c.self.invariant c.self.view_is c.deref.ensures.value _ _ c.in-Some.ensures.found
-    c.index_mut-counted.ensures.value c.requires.kept c.in_ok-run_into.ensures.run in
+    let ran = run_at c.self.invariant c.self.view_is c.deref.ensures.value _ _ c.in-Some.ensures.found
+    c.index_mut-counted.ensures.value (λ _. c.run_into.new.replies.items) NoTenant (λ same. absurd cc) _ _
+    c.run_into.result c.requires.kept c.run_into.ensures.run c.run_into.ensures.err in
     record {
       ran = ran.0;
-      no_tenant = found_ok _ ran.0.found _ _;
-      too_many = λ error. absurd cc;
-      accepted = search rules;
-      refused = tt;
+      no_tenant = ran.1;
+      too_many = c.run_into.ensures.too_many;
+      accepted = c.run_into.ensures.accepted;
+      refused = on_err_both _ _ _ ran.2 c.run_into.ensures.same;
       capacity = c.run_into.ensures.capacity;
-      kept = ran.1;
+      kept = ran.3;
     }

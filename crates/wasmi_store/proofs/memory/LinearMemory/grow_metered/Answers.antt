@@ -1,7 +1,8 @@
 use Rattle.std.proofs.Common.{◌≡◌, ◌-◌, ◌*◌, Ok, length, ap, arith, refl, sym, ◌∙◌}
 use Rattle.wasmi_store.proofs.Common.{err_from_is_err_and, optional_rules, cond-false, MatchBool-at_true, memory_of, page_bytes, with_zeros}
 use Rattle.wasmi_store.proofs.GrowthLemmas.{loan_kept, growing, grows_none, grows_unasked, grows_refused, grows_met}
-use Rattle.wasmi_store.proofs.MemoryLemmas.{memory_growth, growth_asked, growth_permitted, more_with_pages, sized_grown}
+use Rattle.wasmi_store.specs.Memory.{memory_growth}
+use Rattle.wasmi_store.proofs.MemoryLemmas.{growth_asked, growth_permitted, more_with_pages, sized_grown}
 use Rattle.wasmi_store.proofs.memory.LinearMemory.grow_metered.Goals as goal
 
 pub returns-in_default-clause-grown : goal.returns-in_default-clause-grown

@@ -1,7 +1,8 @@
 use Rattle.std.proofs.Common.{◌≡◌, ℕ, true, Result, Ok, Err, List, ◌++◌, ◌-◌, take, replicate, sym, ap, ◌∙◌, ◌+◌, ◌<◌, length, refl, arith}
 use Rattle.wasmi_store.proofs.Common.{cond-false, err_from_is_err_and, optional_rules, take_all, OnErr, is_err}
 use Rattle.wasmi_store.proofs.GrowthLemmas.{growing, grows_unasked, grows_denied, grows_late, grows_unpaid, grows_refused, grows_met}
-use Rattle.wasmi_store.proofs.TableLemmas.{table_growth, growth_asked, growth_permitted}
+use Rattle.wasmi_store.proofs.TableLemmas.{growth_asked, growth_permitted}
+use Rattle.wasmi_store.specs.Table.{table_growth}
 use Rattle.wasmi_store.proofs.WriteLemmas.{table_with}
 use Rattle.wasmi_store.proofs.table.Table.grow_raw_asked.Goals as goal
 

@@ -1,4 +1,4 @@
-use Rattle.std.proofs.Common.{refl, arith, rules, length-append}
+use Rattle.std.proofs.Common.{◌≡◌, ◌+◌, refl, rules, length, length-append, take, drop}
 use Rattle.std.proofs.lemmas.Result.{err_from_is_err_and}
 use Rattle.wasmi_types.proofs.ReadingLemmas.{refused_results, refused_end, read_end}
 use Rattle.wasmi_types.proofs.func_type.FuncType.read.Goals as goal
@@ -13,10 +13,19 @@ returns-in_err-len_results g c =
     }
 
 pub returns-in-Ok : goal.returns-in-Ok
-returns-in-Ok g c = record {
-  reading = read_end c.new-entries.ensures c.in_ok-len_params.ensures.ok c.in_ok-len_results.ensures.ok
-      c.in-Ok.ensures.params c.in-Ok.ensures.results;
-}
+returns-in-Ok g c =
+    let first = c.in_ok-len_params.ensures.ok in
+    let second = c.in_ok-len_results.ensures.ok in
+    let entries = c.read-2.new.self in
+    let n = c.in_ok-len_params.len_params in
+    let count : length entries ≡ n + c.in_ok-len_results.len_results
+    = rw (second.kept, first.kept, c.new-entries.ensures, length-append, ← first.counted, ← second.counted)
+    in
+    record {
+      reading = rw (← count, c.in-Ok.ensures.kept.0)
+          (read_end {ty = record { params = take n entries; results = drop n entries }} c.new-entries.ensures first
+          second refl refl);
+    }
 
 pub returns : goal.returns
 returns g c = record {
@@ -27,16 +36,6 @@ returns g c = record {
 pub read-requires-2 : goal.read-requires-2
 read-requires-2 g c =
     let first = c.in_ok-len_params.ensures.ok in record { readable = c.requires.results first.types _ first.read }
-
-pub from_entries-requires : goal.from_entries-requires
-from_entries-requires g c =
-    let first = c.in_ok-len_params.ensures.ok in
-    let second = c.in_ok-len_results.ensures.ok in
-    record {
-      count = rw (second.kept, first.kept, c.new-entries.ensures, length-append, ← first.counted, ← second.counted);
-      params = omega (arith, first.counted, first.read.short);
-      results = omega (arith, second.counted, second.read.short);
-    }
 
 pub returns-in_err-len_params : goal.returns-in_err-len_params
 returns-in_err-len_params g c = search rules
