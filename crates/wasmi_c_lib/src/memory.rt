@@ -4,7 +4,7 @@ ghost use Rattle.std.specs.Prelude.{◌≡◌, ◌≤◌, ◌+◌, ◌/◌, ◌^
 ghost use Rattle.wasmi_c.specs.MemoryCalls.{AsksEmbedded, CopiesBytesEmbedded, CountsEmbedded, EndsMemory, IsNoType, MakesEmbedded, ReadsEmbedded, WritesBytesEmbedded, WritesEmbedded, by_pages, copied_range, filled_range, made_over, of_memory};
 ghost use Rattle.wasmi_c.specs.Placement.{GrowsBy, IsNone, SettlesBy};
 ghost use Rattle.wasmi_c.specs.declared.status.TheConstants.{DONE};
-ghost use Rattle.wasmi_c.specs.Numbers.{limiter_of, KeepsQuota, embedded, IsState, metered_region, meter_of, placed, settings_of};
+ghost use Rattle.wasmi_c.specs.Numbers.{limiter_of, KeepsQuota, embedded, IsState, metered_region as metered, meter_of, placed, settings_of};
 ghost use Rattle.wasmi_meter.specs.Capped.{quota_rules};
 ghost use Rattle.wasmi_store.specs.Memory.{MemoryTypeValue, in_bounds, minimum_bytes, named_type, page_bytes};
 ghost use Rattle.wasmi_c.specs.FuelCalls.{SetsFuel, TellsFuel, PaysFuel};

@@ -1,7 +1,7 @@
 //! Tables in regions of the caller's.
 //! `tools/header` writes this file, by the rows of `tools/exports.toml`.
 ghost use Rattle.std.specs.Prelude.{◌≡◌, None, ◌+◌, ◌⊎◌, false, Some};
-ghost use Rattle.wasmi_c.specs.Numbers.{limiter_of, table_type_of, KeepsQuota, embedded, IsTable, metered_region, placed};
+ghost use Rattle.wasmi_c.specs.Numbers.{limiter_of, table_type_of, KeepsQuota, embedded, IsTable, metered_region as metered, placed};
 ghost use Rattle.wasmi_c.specs.TableCalls.{AsksTableEmbedded, CopiesEmbedded, CountsElements, EndsTable, GetsElement, MakesTableEmbedded, SetsElement, WritesTableEmbedded, by_elements, of_table};
 ghost use Rattle.wasmi_c.specs.Placement.{GrowsBy, IsNone, SettlesBy};
 ghost use Rattle.wasmi_c.specs.declared.status.TheConstants.{DONE};
