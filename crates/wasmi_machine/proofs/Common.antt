@@ -11,11 +11,11 @@ pub use Rattle.std.specs.Option.{option_map, unwrap_or, option_and_then, option_
 pub use Rattle.std.specs.Prelude.{if◌then◌else◌, is_none, nat_le, ◌&&◌, MatchBool, All, slice_get, slice_set, nat_eq, is_some, Vec, cond, nat_lt, sum_by}
 pub use Rattle.wasmi_meter.specs.Attempt.{Attempt, Denied, Request, Failed, AttemptOutcome, Met, MeteredValue, Unasked, optional_due, covers, with_value, Follows, IsFirstCause, MayEnd, alone, answer_of, outcome_charge, value_after, error_of_answer, error_of_failure}
 pub use Rattle.wasmi_meter.specs.Capped.{Capped, capped_rules, capped_quota, quota_rules, HoldsTheSame, Reserves, GivesBack, with_more, SameCaps, IsWithinCaps}
-pub use Rattle.wasmi_meter.specs.Limiter.{Rules, Answer, AskedIf, NoticedIf, IsDenial, MemoryFailure, TableFailure, optional_rules, unlimited_rules, Failure, NoticeAnswer, Question, kind_of, lent_limiter, KeepsLoan}
+pub use Rattle.wasmi_meter.specs.Limiter.{Rules, Answer, AskedIf, NoticedIf, IsDenial, MemoryFailure, TableFailure, optional_rules, unlimited_rules, Failure, NoticeAnswer, Question, kind_of, lent_limiter, lent_rules, KeepsLoan}
 pub use Rattle.wasmi_meter.specs.Meter.{Meter, amount_left, due, meter_after, meter_set, PaysCharge, copy_cost, cut_product}
 pub use Rattle.wasmi_meter.specs.declared.{error.MemoryError.MemoryError, error.TableError.TableError, fuel.CustomFuelCosts.CustomFuelCosts, limiter.Kind.Kind}
 pub use Rattle.wasmi_meter.specs.declared.limiter.Kind.TheVariants.{Bytes, Elements}
-pub use Rattle.wasmi_store.proofs.GrowthLemmas.{on_both_tests, on_test, on_test_too, grows_too, loan_kept}
+pub use Rattle.wasmi_store.proofs.GrowthLemmas.{on_both_tests, on_test, on_test_too, grows_too, loan_kept, loan_same}
 pub use Rattle.wasmi_store.specs.Buffer.{LacksMemory, Lent, Owned, Room, fits_room}
 pub use Rattle.wasmi_store.specs.Growth.{Grows, Growth, metered_value, Makes, metered, IsDenied, WithCharge}
 pub use Rattle.wasmi_store.specs.Memory.{GrowsMemoryCharging, memory_growth, MemoryValue, MakesMemory, new_memory, MemoryTypeValue, minimum_bytes, page_bytes, GrowsMemory, MemoryWrite, WritesMemory, bytes_write, pages_of, in_bounds, IsValidMemory, greatest_pages}

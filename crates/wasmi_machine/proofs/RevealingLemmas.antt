@@ -1,9 +1,12 @@
 -- What the replies of a run reveal of its limiter: a run is one under another limiter too, in the image of its state,
--- where its replies show it or the one carries the other (`Carries`), and the limiter is in states of which this holds.
-use Rattle.std.proofs.Common.{Err, List, Result, Some, [], ap, inl, inr, map, refl, sym, true, ℕ, ◌∙◌, ◌∷◌, ◌≡◌, Ok}
-use Rattle.wasmi_machine.proofs.Common.{All-head, All-tail, All, on_test_too, grows_too, ActsAt, Creates, reply_of, Run, Changed, Effect, FuelSet, LentMemoryMade, MemoryGrown, MemoryMade, MemoryWritten, RangeWritten, TableGrown, TableMade, TableWritten, HasEffect, effect_of, Step, live_at, Turn, World, Reply, Slot, Attempt, Denied, Request, Failed, AttemptOutcome, Follows, Met, MeteredValue, Unasked, alone, answer_of, error_of_answer, error_of_failure, with_value, Rules, Lent, Owned, Room, Grows, Growth, Makes, metered_value, GrowsMemoryCharging, MemoryValue, new_memory, MemoryTypeValue, GrowsTableCharging, TableValue, new_table, TableTypeValue, same_type, RefType, permitting, TellsNoDenial, memory_growth, table_growth, outcome_of}
+-- where its replies show it or the one carries the other (`Carries`), and the limiter is in states of which this holds;
+-- and one under a reference to a limiter is one under the limiter.
+use Rattle.std.proofs.Common.{Err, List, Result, Some, [], ap, inl, inr, map, refl, sym, true, ℕ, ◌∙◌, ◌∷◌, ◌≡◌, Ok, IfOk, OnErr}
+use Rattle.std.specs.Borrow.{MutBor}
+use Rattle.wasmi_machine.proofs.Common.{All-head, All-tail, All, on_test_too, grows_too, ActsAt, Creates, reply_of, Run, Changed, Effect, FuelSet, LentMemoryMade, MemoryGrown, MemoryMade, MemoryWritten, RangeWritten, TableGrown, TableMade, TableWritten, HasEffect, effect_of, Step, live_at, Turn, World, Reply, Slot, Attempt, Denied, Request, Failed, AttemptOutcome, Follows, Met, MeteredValue, Unasked, alone, answer_of, error_of_answer, error_of_failure, with_value, Rules, Lent, Owned, Room, Grows, Growth, Makes, metered_value, GrowsMemoryCharging, MemoryValue, new_memory, MemoryTypeValue, GrowsTableCharging, TableValue, new_table, TableTypeValue, same_type, RefType, permitting, TellsNoDenial, memory_growth, table_growth, outcome_of, Call, IsRunOf, KeepsLoan, RepliesWith, State, lent_limiter, lent_rules, loan_kept, loan_same, option_and_then, optional_rules, world}
+use Rattle.wasmi_meter.specs.declared.limiter.LimiterRef.{LimiterRef}
 use Rattle.wasmi_machine.proofs.EffectLemmas.{on_live_too}
-use Rattle.wasmi_machine.proofs.HoldingLemmas.{Carries, step_stays, run_stays}
+use Rattle.wasmi_machine.proofs.HoldingLemmas.{Carries, IsThere, optional_carries, step_stays, run_stays}
 use Rattle.wasmi_machine.proofs.StoreLemmas.{acts_too, asks_too, changes_too, unasked_too}
 use Rattle.wasmi_store.specs.Memory as memory
 use Rattle.wasmi_machine.specs.declared.calls.Reply.TheVariants as replied
@@ -180,18 +183,60 @@ module _ {S T : Type 0} {within : S → Type 0} {image : S → T} {rules : Rules
       let asked = carries.asked l e.question (Ok true) permitted here asks in
       (image permitted, asked.1, (carries.noticed permitted (e.notice c) notice_answer l' asked.0 notices).1)
 
+  -- so it does in each attempt
+  abbrev each_carried : EachReveals carrying
+  each_carried = record {
+    memory_made = λ room ty. carries_revealed replied.Memory (memory.creation_of room ty);
+    memory_grown = λ x pages. carries_revealed replied.Memory (memory.growth_of x pages);
+    table_made = λ ty init. carries_revealed replied.Table (table.creation_of ty init);
+    table_grown = λ x n reference. carries_revealed replied.Table (table.growth_of x n reference);
+  }
+
   -- a run under the first from these states on leaves it in them, and is one under the second
   pub run_carried : (w : World S) (turns : List Turn) (w' : World S) → within w.limiter → Run rules w turns w'
       → within w'.limiter × Run rules' (carried carrying w) turns (carried carrying w')
   run_carried w turns w' here ran = (
     run_stays carries w turns w' here ran,
-    run_revealed carrying (record {
-      memory_made = λ room ty. carries_revealed replied.Memory (memory.creation_of room ty);
-      memory_grown = λ x pages. carries_revealed replied.Memory (memory.growth_of x pages);
-      table_made = λ ty init. carries_revealed replied.Table (table.creation_of ty init);
-      table_grown = λ x n reference. carries_revealed replied.Table (table.growth_of x n reference);
-    }) (step_stays carries) w turns w' here (λ k d inside. tt) ran,
+    run_revealed carrying each_carried (step_stays carries) w turns w' here (λ k d inside. tt) ran,
   )
+
+  -- so does a step
+  step_carried : (w : World S) (turn : Turn) (w' : World S) → within w.limiter → Step rules w turn w'
+      → within w'.limiter × Step rules' (carried carrying w) turn (carried carrying w')
+  step_carried w turn w' here step = (
+    step_stays carries w turn w' here step,
+    effect_revealed carrying each_carried w turn w' here tt (effect_of w.state turn.call) step,
+  )
+
+module _ {L : Type 0} (rules : Rules L) (r r' : LimiterRef (MutBor L)) (s s' : State) where
+  -- a reference to a limiter does what the limiter does, and leads to what it led to
+  lent_carries : Carries (IsThere (KeepsLoan r)) (option_and_then lent_limiter) (optional_rules (lent_rules rules))
+      (optional_rules rules)
+  lent_carries = optional_carries {rules' = rules} (record {
+    asked = λ l question answer l' kept asks. (loan_kept r l l' kept asks.0, asks.1);
+    noticed = λ l failure answer l' kept notices. (loan_kept r l l' kept notices.0, notices.1);
+  })
+
+  -- a call under a reference to a limiter is one under the limiter, and keeps the loan
+  pub step_lent : (call : Call) (reply : Reply)
+      → RepliesWith (optional_rules (lent_rules rules)) call (world s (Some r)) reply (world s' (Some r'))
+      → KeepsLoan r r'
+      × RepliesWith (optional_rules rules) call (world s (lent_limiter r)) reply (world s' (lent_limiter r'))
+  step_lent call reply (charge, written, step) =
+      let seen = step_carried lent_carries (world s (Some r)) _ (world s' (Some r')) (loan_same r) step in
+      (seen.0, (charge, written, seen.1))
+
+  -- so is a run, unless it is refused
+  pub run_lent : {R E : Type 0} (items : R → List Reply) (calls : List Call) (result : Result R E)
+      → IfOk result (λ replies. IsRunOf (optional_rules (lent_rules rules)) calls (world s (Some r)) (items replies)
+      (world s' (Some r')))
+      → OnErr result ((s' ≡ s) × (r' ≡ r)) → KeepsLoan r r'
+      × IfOk result (λ replies. IsRunOf (optional_rules rules) calls (world s (lent_limiter r)) (items replies)
+      (world s' (lent_limiter r')))
+  run_lent items calls (Ok replies) (turns, called, replied, ran) same =
+      let seen = run_carried lent_carries (world s (Some r)) turns (world s' (Some r')) (loan_same r) ran in
+      (seen.0, (turns, called, replied, seen.1))
+  run_lent items calls (Err error) ran same = (rw same.1 (loan_same r), tt)
 
 module _ {S : Type 0} (rules : Rules S) where
   -- the replies that tell of no denial, in any state of the limiter

@@ -227,8 +227,3 @@ module _ {S : Type 0} (rules : Rules S) where
   pub unasked_at : {call call' : Call} {m m' : State} (reply : Reply) (s : State) → call ≡ call' → m' ≡ m
       → RepliesWithoutLimiter rules call' m' reply s → RepliesWithoutLimiter rules call m reply s
   unasked_at reply s same is answers = rw (same, ← is) answers
-
-  -- an answered call, with the limiter before and after it by other names
-  pub answers_by : (call : Call) (m m' : State) (reply : Reply) (l k l' k' : S) → l ≡ k → l' ≡ k'
-      → RepliesWith rules call (world m l) reply (world m' l') → RepliesWith rules call (world m k) reply (world m' k')
-  answers_by call m m' reply l k l' k' before after answers = rw (before, after) at answers

@@ -1,6 +1,6 @@
 //! What calls do to the memories of a machine, by their indices, and the replies to these calls.
 ghost use Rattle.std.specs.Prelude.{◌≡◌, ◌+◌, ◌≤◌, Some, length};
-ghost use Rattle.wasmi_meter.specs.Limiter.{optional_rules, lent_limiter, KeepsLoan};
+ghost use Rattle.wasmi_meter.specs.Limiter.{optional_rules};
 ghost use Rattle.wasmi_store.specs.Buffer.{Owned};
 ghost use Rattle.wasmi_store.specs.Growth.{metered, WithCharge};
 ghost use Rattle.wasmi_store.specs.Memory.{MakesMemory, byte_copy_of, byte_filling_of};
@@ -17,7 +17,7 @@ use crate::calls::{ByteList, Reply};
 use crate::data::{DataSegment, copy_of_bytes};
 use crate::slots::{Slot, Slots};
 use std::alloc::Global;
-use wasmi_meter::{Fuel, MemoryError, ResourceLimiter, ResourceLimiterRef};
+use wasmi_meter::{Fuel, MemoryError, ResourceLimiter};
 use wasmi_ops::{LoadLaneOp, LoadOp, StoreLaneOp, StoreOp, VectorLoadOp};
 use wasmi_raw::{RawVal, V128};
 use wasmi_store::range::lies_within;
@@ -31,19 +31,18 @@ impl<'r> Slots<Memory<'r>> {
         &mut self,
         alloc: Global,
         ty: MemoryType,
-        limiter: &mut ResourceLimiterRef<L>,
+        limiter: &mut L,
     ) -> Reply
-        ensures loan { KeepsLoan limiter.old limiter.new }
         ensures made { Creates Reply.Memory
             (MakesMemory (optional_rules L.rules) Owned ty) self.old.slots.items
-            (lent_limiter limiter.old) result self.new.slots.items (lent_limiter limiter.new) }
+            (Some limiter.old) result self.new.slots.items (Some limiter.new) }
         ensures room { IfNoRoom result (self.old.slots.reserved ≤ length self.old.slots.items) }
         ensures reserved { self.new.slots.reserved ≡ self.old.slots.reserved }
     {
         if self.slots.try_reserve(1).is_err() {
             return Reply::NoRoom;
         }
-        match Memory::new(alloc, ty, limiter) {
+        match Memory::new_lending(alloc, ty, limiter) {
             Ok(memory) => Reply::Made(self.push(memory)),
             Err(error) => Reply::Memory(error),
         }
@@ -54,14 +53,13 @@ impl<'r> Slots<Memory<'r>> {
         &mut self,
         ty: MemoryType,
         spare: &mut Option<&'r mut [u8]>,
-        limiter: &mut ResourceLimiterRef<L>,
+        limiter: &mut L,
     ) -> Reply
-        ensures loan { KeepsLoan limiter.old limiter.new }
         ensures made { CreatesLent (optional_rules L.rules) ty
             (record { slots = self.old.slots.items; spare = option_copied_mut spare.old })
-            (lent_limiter limiter.old) result
+            (Some limiter.old) result
             (record { slots = self.new.slots.items; spare = option_copied_mut spare.new })
-            (lent_limiter limiter.new) }
+            (Some limiter.new) }
         ensures room { IfNoRoom result (self.old.slots.reserved ≤ length self.old.slots.items) }
         ensures reserved { self.new.slots.reserved ≡ self.old.slots.reserved }
     {
@@ -69,7 +67,7 @@ impl<'r> Slots<Memory<'r>> {
             return Reply::NoRegion;
         };
         if self.slots.try_reserve(1).is_ok() {
-            match Memory::new_static(ty, limiter, region) {
+            match Memory::new_static_lending(ty, limiter, region) {
                 Ok(memory) => Reply::Made(self.push(memory)),
                 Err(error) => Reply::Memory(error),
             }

@@ -26,8 +26,7 @@ impl<'r> Machine<'r> {
             (world self.new (lent_limiter limiter.new)) }
         ensures valid { IsValid self.new }
     {
-        call.tell_valid();
-        self.store.step(call, limiter)
+        self.step_lending(call, limiter)
     }
 
     /// Grows a memory by so many pages, as `step_lending` does for `Call::GrowMemory`. The reply is
@@ -44,9 +43,7 @@ impl<'r> Machine<'r> {
             (world self.old (Some limiter.old)) result (world self.new (Some limiter.new)) }
         ensures valid { IsValid self.new }
     {
-        let mut lent = ResourceLimiterRef::from(limiter);
-        let reply = self.store.grow_memory(memory, pages, &mut lent);
-        let _limiter = lent.into_limiter();
+        let reply = self.store.grow_memory(memory, pages, limiter);
         reply.unwrap_or(Reply::NoSuch)
     }
 
@@ -58,15 +55,12 @@ impl<'r> Machine<'r> {
             (world self.old (Some limiter.old)) result (world self.new (Some limiter.new)) }
         ensures valid { IsValid self.new }
     {
-        let mut lent = ResourceLimiterRef::from(limiter);
-        let reply = self.step(call, &mut lent);
-        let _limiter = lent.into_limiter();
-        reply
+        call.tell_valid();
+        self.store.step(call, limiter)
     }
 }
 
 /// Executes calls one after another.
-#[tactic(auto, using(std::proofs::lemmas::Grind::common_steps))]
 pub fn run<L: ResourceLimiter>(
     machine: &mut Machine,
     calls: &[Call],
@@ -79,16 +73,11 @@ pub fn run<L: ResourceLimiter>(
     ensures err { OnErr result ((machine.new ≡ machine.old) × (limiter.new ≡ limiter.old)) }
     ensures valid { IsValid machine.new }
 {
-    machine.tell_valid();
-    let mut replies = Vec::with_capacity(machine.store.alloc, calls.len())?;
-    for call in calls {
-        let reply = machine.step(call, limiter);
-        replies.push_reserved(reply);
-    }
-    Ok(replies)
+    run_lending(machine, calls, limiter)
 }
 
 /// Executes calls, as `run`, but only borrows the limiter, so its state afterwards is known.
+#[tactic(auto, using(std::proofs::lemmas::Grind::common_steps))]
 pub fn run_lending<L: ResourceLimiter>(
     machine: &mut Machine,
     calls: &[Call],
@@ -100,10 +89,13 @@ pub fn run_lending<L: ResourceLimiter>(
     ensures err { OnErr result ((machine.new ≡ machine.old) × (limiter.new ≡ limiter.old)) }
     ensures valid { IsValid machine.new }
 {
-    let mut lent = ResourceLimiterRef::from(limiter);
-    let replies = run(machine, calls, &mut lent);
-    let _limiter = lent.into_limiter();
-    replies
+    machine.tell_valid();
+    let mut replies = Vec::with_capacity(machine.store.alloc, calls.len())?;
+    for call in calls {
+        let reply = machine.step_lending(call, limiter);
+        replies.push_reserved(reply);
+    }
+    Ok(replies)
 }
 
 /// Executes calls, as `run`, under a limiter that holds exactly what the machine has, also after.
@@ -141,16 +133,7 @@ pub fn run_into<L: ResourceLimiter>(
     ensures capacity { replies.new.capacity ≡ replies.old.capacity }
     ensures valid { IsValid machine.new }
 {
-    machine.tell_valid();
-    if replies.capacity() < calls.len() {
-        return Err(TooManyCalls);
-    }
-    replies.clear();
-    for call in calls {
-        let reply = machine.step(call, limiter);
-        replies.push(reply);
-    }
-    Ok(())
+    run_into_lending(machine, calls, limiter, replies)
 }
 
 /// Executes calls, as `run_into`, but only borrows the limiter, so its state afterwards is known.
@@ -169,10 +152,16 @@ pub fn run_into_lending<L: ResourceLimiter>(
     ensures capacity { replies.new.capacity ≡ replies.old.capacity }
     ensures valid { IsValid machine.new }
 {
-    let mut lent = ResourceLimiterRef::from(limiter);
-    let result = run_into(machine, calls, &mut lent, replies);
-    let _limiter = lent.into_limiter();
-    result
+    machine.tell_valid();
+    if replies.capacity() < calls.len() {
+        return Err(TooManyCalls);
+    }
+    replies.clear();
+    for call in calls {
+        let reply = machine.step_lending(call, limiter);
+        replies.push(reply);
+    }
+    Ok(())
 }
 
 /// Executes calls, as `run_into`, under a limiter that holds what the machine has, also after.

@@ -1,6 +1,6 @@
 //! The store of a machine: what was made, registers and meter, and what each call does to them.
-ghost use Rattle.std.specs.Prelude.{◌≡◌, OnOk, OnErr};
-ghost use Rattle.wasmi_meter.specs.Limiter.{optional_rules, lent_limiter, KeepsLoan};
+ghost use Rattle.std.specs.Prelude.{◌≡◌, Some, OnOk, OnErr};
+ghost use Rattle.wasmi_meter.specs.Limiter.{optional_rules};
 ghost use Rattle.wasmi_machine.specs.Effects.{reply_or_no_such};
 
 use crate::calls::{Call, Reply};
@@ -13,7 +13,7 @@ use crate::values::{
 };
 use std::alloc::{AllocError, Global as Allocator};
 use std::marker::Model;
-use wasmi_meter::{Fuel, ResourceLimiter, ResourceLimiterRef};
+use wasmi_meter::{Fuel, ResourceLimiter};
 use wasmi_store::{ElementSegment, Memory, Table};
 use wasmi_typed::Global;
 
@@ -85,28 +85,22 @@ impl<'r> MachineStore<'r> {
         &mut self,
         memory: usize,
         pages: u64,
-        limiter: &mut ResourceLimiterRef<L>,
+        limiter: &mut L,
     ) -> Option<Reply>
-        ensures loan { KeepsLoan limiter.old limiter.new }
-        ensures step { RepliesWith (optional_rules L.rules) (GrowMemory memory pages)
-            (world self.old (lent_limiter limiter.old)) (reply_or_no_such result)
-            (world self.new (lent_limiter limiter.new)) }
+        ensures { RepliesWith (optional_rules L.rules) (GrowMemory memory pages)
+            (world self.old (Some limiter.old)) (reply_or_no_such result)
+            (world self.new (Some limiter.new)) }
     {
         let memory = self.memories.live_mut(memory)?;
-        let grown = memory.grow_metered(pages, &mut self.fuel, limiter);
+        let grown = memory.grow_lending(pages, &mut self.fuel, limiter);
         Some(grown.map_or_else(Reply::Memory, Reply::Number))
     }
 
     #[inline(always)]
-    pub(crate) fn step<L: ResourceLimiter>(
-        &mut self,
-        call: &Call,
-        limiter: &mut ResourceLimiterRef<L>,
-    ) -> Reply
-        ensures loan { KeepsLoan limiter.old limiter.new }
-        ensures step { RepliesWith (optional_rules L.rules) call.now
-            (world self.old (lent_limiter limiter.old)) result
-            (world self.new (lent_limiter limiter.new)) }
+    pub(crate) fn step<L: ResourceLimiter>(&mut self, call: &Call, limiter: &mut L) -> Reply
+        ensures { RepliesWith (optional_rules L.rules) call.now
+            (world self.old (Some limiter.old)) result
+            (world self.new (Some limiter.new)) }
     {
         match call {
             Call::SetFuel(fuel) => self
@@ -150,16 +144,11 @@ impl<'r> MachineStore<'r> {
         }
     }
 
-    fn step_memory<L: ResourceLimiter>(
-        &mut self,
-        call: &Call,
-        limiter: &mut ResourceLimiterRef<L>,
-    ) -> Option<Reply>
+    fn step_memory<L: ResourceLimiter>(&mut self, call: &Call, limiter: &mut L) -> Option<Reply>
         requires subject { subject_of call.now ≡ Memories }
-        ensures loan { KeepsLoan limiter.old limiter.new }
         ensures step { RepliesWith (optional_rules L.rules) call.now
-            (world self.old (lent_limiter limiter.old)) (reply_or_no_such result)
-            (world self.new (lent_limiter limiter.new)) }
+            (world self.old (Some limiter.old)) (reply_or_no_such result)
+            (world self.new (Some limiter.new)) }
     {
         match call {
             Call::NewMemory(ty) => Some(self.memories.create(self.alloc, *ty, limiter)),
@@ -225,16 +214,11 @@ impl<'r> MachineStore<'r> {
         }
     }
 
-    fn step_table<L: ResourceLimiter>(
-        &mut self,
-        call: &Call,
-        limiter: &mut ResourceLimiterRef<L>,
-    ) -> Option<Reply>
+    fn step_table<L: ResourceLimiter>(&mut self, call: &Call, limiter: &mut L) -> Option<Reply>
         requires subject { subject_of call.now ≡ Tables }
-        ensures loan { KeepsLoan limiter.old limiter.new }
         ensures step { RepliesWith (optional_rules L.rules) call.now
-            (world self.old (lent_limiter limiter.old)) (reply_or_no_such result)
-            (world self.new (lent_limiter limiter.new)) }
+            (world self.old (Some limiter.old)) (reply_or_no_such result)
+            (world self.new (Some limiter.new)) }
     {
         match call {
             Call::NewTable { ty, init } => Some(

@@ -1,7 +1,7 @@
 //! What calls do to the tables of a machine, by their indices, and the replies to calls on tables.
 ghost use Rattle.std.specs.Prelude.{◌≡◌, ◌≤◌, length, Some};
 ghost use Rattle.std.specs.Option.{option_copied, option_map};
-ghost use Rattle.wasmi_meter.specs.Limiter.{optional_rules, lent_limiter, KeepsLoan};
+ghost use Rattle.wasmi_meter.specs.Limiter.{optional_rules};
 ghost use Rattle.wasmi_store.specs.Growth.{metered_value, metered, WithCharge};
 ghost use Rattle.wasmi_store.specs.Table.{MakesTable, GrowsTableCharging, filling_of, copy_of, initialization_of};
 ghost use Rattle.wasmi_machine.specs.Effects.{reply_of, reply_or_no_such, ActsAt, Creates, IfNoRoom, WritesRangeAt, WritesAt, WritesFrom};
@@ -11,7 +11,7 @@ ghost use Rattle.wasmi_machine.specs.State.{live_at};
 use crate::calls::Reply;
 use crate::slots::{Slot, Slots};
 use std::alloc::Global;
-use wasmi_meter::{Fuel, ResourceLimiter, ResourceLimiterRef, TableError};
+use wasmi_meter::{Fuel, ResourceLimiter, TableError};
 use wasmi_store::{ElementSegment, ElementSegmentRef, Table, TableType};
 use wasmi_typed::TypedRawRef;
 
@@ -22,19 +22,18 @@ impl Slots<Table> {
         alloc: Global,
         ty: TableType,
         init: TypedRawRef,
-        limiter: &mut ResourceLimiterRef<L>,
+        limiter: &mut L,
     ) -> Reply
-        ensures loan { KeepsLoan limiter.old limiter.new }
         ensures made { Creates Reply.Table
             (MakesTable (optional_rules L.rules) ty init) self.old.slots.items
-            (lent_limiter limiter.old) result self.new.slots.items (lent_limiter limiter.new) }
+            (Some limiter.old) result self.new.slots.items (Some limiter.new) }
         ensures room { IfNoRoom result (self.old.slots.reserved ≤ length self.old.slots.items) }
         ensures reserved { self.new.slots.reserved ≡ self.old.slots.reserved }
     {
         if self.slots.try_reserve(1).is_err() {
             return Reply::NoRoom;
         }
-        match Table::new(alloc, ty, init, limiter) {
+        match Table::new_lending(alloc, ty, init, limiter) {
             Ok(table) => Reply::Made(self.push(table)),
             Err(error) => Reply::Table(error),
         }
@@ -46,18 +45,17 @@ impl Slots<Table> {
         delta: u64,
         init: TypedRawRef,
         fuel: &mut Fuel,
-        limiter: &mut ResourceLimiterRef<L>,
+        limiter: &mut L,
     ) -> Option<Reply>
-        ensures loan { KeepsLoan limiter.old limiter.new }
         ensures grown { WithCharge (ActsAt index (reply_of Reply.Number Reply.Table)
             (GrowsTableCharging (optional_rules L.rules) delta init))
-            (metered_value self.old.slots.items (Some fuel.old) (lent_limiter limiter.old))
+            (metered_value self.old.slots.items (Some fuel.old) (Some limiter.old))
             (reply_or_no_such result)
-            (metered_value self.new.slots.items (Some fuel.new) (lent_limiter limiter.new)) }
+            (metered_value self.new.slots.items (Some fuel.new) (Some limiter.new)) }
         ensures reserved { self.new.slots.reserved ≡ self.old.slots.reserved }
     {
         let table = self.live_mut(index)?;
-        let grown = table.grow_metered(delta, init, fuel, limiter);
+        let grown = table.grow_lending(delta, init, fuel, limiter);
         Some(grown.map_or_else(Reply::Table, Reply::Number))
     }
 

@@ -88,3 +88,11 @@ abbrev pub LendsLimiter : (R L : RattleType) → (R.Denot → L.Denot → R.Deno
     → Option (MutBor L.Denot) → Fml
 LendsLimiter R L last s r =
     LendsIf (the_row R) L s r (λ l. record s.now { limiter = option_map (λ lender. last lender l) s.now.limiter }) s.now
+
+-- the rules of a reference to a limiter, if there is one: those of the limiter, and it leads to what it led to
+abbrev pub lent_rules : {L : Type 0} → Rules L → Rules (LimiterRef (MutBor L))
+lent_rules rules = record {
+  asked = λ r question answer r'. KeepsLoan r r' × AskedIf rules (lent_limiter r) question answer (lent_limiter r');
+  noticed = λ r failure notice_answer r'.
+      KeepsLoan r r' × NoticedIf rules (lent_limiter r) failure notice_answer (lent_limiter r');
+}

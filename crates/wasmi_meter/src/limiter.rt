@@ -5,7 +5,7 @@ ghost use Rattle.std.specs.Prelude.{◌≡◌, ◌≤◌, ℕ, Option, IsSome, S
 ghost use Rattle.std.specs.Option.{option_copied_mut};
 ghost use Rattle.std.specs.Borrow.{sem, Lends};
 ghost use denote.Ref.{at_last};
-ghost use Rattle.wasmi_meter.specs.Limiter.{Failure, MemoryFailure, TableFailure, Rules, kind_of, optional_rules, unlimited_rules, loan, lent_limiter, KeepsLoan, LendsLimiter};
+ghost use Rattle.wasmi_meter.specs.Limiter.{Failure, MemoryFailure, TableFailure, Rules, kind_of, optional_rules, lent_rules, unlimited_rules, loan, lent_limiter, KeepsLoan, LendsLimiter};
 ghost use Rattle.wasmi_meter.specs.declared.limiter.Kind.TheVariants.{Bytes, Elements};
 
 use crate::error::{LimiterError, MemoryError, TableError};
@@ -403,6 +403,64 @@ impl<'a, L: ResourceLimiter> LimiterRef<&'a mut L> {
         match &mut self.limiter {
             Some(limiter) => limiter.table_grow_failed(error),
             None => Ok(()),
+        }
+    }
+}
+
+/// A reference to a limiter, or none, is a limiter.
+impl<'a, L: ResourceLimiter> ResourceLimiter for LimiterRef<&'a mut L> {
+    ghost rules = { lent_rules L.rules };
+
+    fn memory_growing(
+        &mut self,
+        current: usize,
+        desired: usize,
+        maximum: Option<usize>,
+    ) -> Result<bool, LimiterError> {
+        self.memory_growing(current, desired, maximum)
+    }
+
+    fn table_growing(
+        &mut self,
+        current: usize,
+        desired: usize,
+        maximum: Option<usize>,
+    ) -> Result<bool, LimiterError> {
+        self.table_growing(current, desired, maximum)
+    }
+
+    fn memory_grow_failed(&mut self, error: &MemoryError) -> Result<(), LimiterError> {
+        self.memory_grow_failed(error)
+    }
+
+    fn table_grow_failed(&mut self, error: &TableError) -> Result<(), LimiterError> {
+        self.table_grow_failed(error)
+    }
+
+    fn instances(&self) -> usize
+        ensures absent { loan self.now ≡ None → result ≡ usize.MAX }
+    {
+        match &self.limiter {
+            Some(limiter) => limiter.instances(),
+            None => usize::MAX,
+        }
+    }
+
+    fn tables(&self) -> usize
+        ensures absent { loan self.now ≡ None → result ≡ usize.MAX }
+    {
+        match &self.limiter {
+            Some(limiter) => limiter.tables(),
+            None => usize::MAX,
+        }
+    }
+
+    fn memories(&self) -> usize
+        ensures absent { loan self.now ≡ None → result ≡ usize.MAX }
+    {
+        match &self.limiter {
+            Some(limiter) => limiter.memories(),
+            None => usize::MAX,
         }
     }
 }

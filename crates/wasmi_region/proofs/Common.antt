@@ -2,7 +2,7 @@
 pub use Rattle.std.proofs.lemmas.Bool.{cond-true, cond-false, leb-true}
 pub use Rattle.std.proofs.lemmas.Result.{err_from_is_err_and}
 pub use Rattle.wasmi_meter.specs.Limiter.{Rules, Question, Answer, optional_rules, lent_limiter}
-pub use Rattle.wasmi_store.proofs.GrowthLemmas.{loan_kept, permitted_by, GrowthAttempt, growing, grows_none, PermitsGrowth, grows_unasked, grows_met, grows_denied, grows_late, grows_unpaid, grows_refused, makes_denied, makes_refused}
+pub use Rattle.wasmi_store.proofs.GrowthLemmas.{loan_kept, makes_lent, grows_lent, permitted_by, GrowthAttempt, growing, grows_none, PermitsGrowth, grows_unasked, grows_met, grows_denied, grows_late, grows_unpaid, grows_refused, makes_denied, makes_refused}
 pub use Rattle.wasmi_store.specs.Memory.{memory_growth}
 pub use Rattle.wasmi_store.proofs.MemoryLemmas.{growth_permitted, makes_short}
 pub use Rattle.wasmi_store.proofs.TableLemmas.{same_as_itself}

@@ -1,10 +1,13 @@
 -- Facts by a test; the making and the growth of any value, by what was tested on the way: the limiter's answer or
 -- notice, the late cause, and what the meter can pay; and a growth of another request, of a loan, and without a meter.
 use Rattle.std.proofs.Common.{◌≡◌, ℕ, ◌<◌, ◌≤◌, Bool, true, false, Option, Some, None, Result, Ok, Err, inl, inr, refl, ap, ◌∙◌, arith}
-use Rattle.wasmi_store.proofs.Common.{cond-true, cond-false, if◌then◌else◌, MatchBool, nat_tests, CustomFuelCosts, Question, Answer, NoticeAnswer, Rules, KeepsLoan, Meter, amount_left, Charges, MeteredValue, alone, Request, AttemptOutcome, Unasked, Denied, Met, Failed, Attempt, Permits, answer_of, error_of_failure, optional_due, covers, IsPermitted, ReachesCharge, attempt_unasked, attempt_denied, attempt_late, attempt_unpaid, attempt_refused, attempt_met, IsAsked, Makes, Growth, Grows, WithCharge, metered_value}
+use Rattle.wasmi_store.proofs.Common.{cond-true, cond-false, if◌then◌else◌, MatchBool, nat_tests, CustomFuelCosts, Question, Answer, NoticeAnswer, Rules, KeepsLoan, optional_rules, Meter, amount_left, Charges, MeteredValue, alone, Request, AttemptOutcome, Unasked, Denied, Met, Failed, Attempt, Permits, answer_of, error_of_failure, optional_due, covers, IsPermitted, ReachesCharge, attempt_unasked, attempt_denied, attempt_late, attempt_unpaid, attempt_refused, attempt_met, IsAsked, Makes, Growth, Grows, WithCharge, metered_value}
 use Rattle.std.specs.Borrow.{MutBor}
 use Rattle.std.proofs.lemmas.Grind.{common_steps}
 use Rattle.wasmi_meter.specs.declared.limiter.LimiterRef.{LimiterRef}
+use Rattle.wasmi_meter.specs.Attempt.{Follows}
+use Rattle.wasmi_meter.specs.Limiter.{SameLoan, lent_limiter, lent_rules}
+use Rattle.std.specs.Prelude.{option_and_then}
 
 -- what follows whether a test holds or fails
 pub on_test : {C : Type 0} (test : Bool) (Holds Fails : Type 0) → MatchBool test Holds Fails → (Holds → C) → (Fails → C)
@@ -48,14 +51,81 @@ pub grows_none : {V E S : Type 0} (rules : Rules S) (g : Growth V E) (s : Metere
 grows_none rules g s none answered =
     (0, inl (record { none = none; answered = answered; uncharged = refl; same = refl }))
 
--- what holds of a loan's states holds of the limiter that was lent
-pub of_loan : {L : Type 0} (Holds : Option L → Option L → Type 0) (s s' : Option L) (l l' : L) → s ≡ Some l
-    → s' ≡ Some l' → Holds s s' → Holds (Some l) (Some l')
-of_loan Holds s s' l l' before after holds = rw (← before, ← after) holds
+-- a loan is itself
+pub loan_same : {L : Type 0} (r : LimiterRef (MutBor L)) → KeepsLoan r r
+loan_same r = same r.limiter
+  where
+    same : {L : Type 0} (lent : Option (MutBor L)) → SameLoan lent lent
+    same None = tt
+    same (Some r) = refl
 
 -- a loan that is kept, and kept again, is kept
 pub loan_kept : {L : Type 0} (r r' r'' : LimiterRef (MutBor L)) → KeepsLoan r r' → KeepsLoan r' r'' → KeepsLoan r r''
 loan_kept r r' r'' kept more = grind (arith, common_steps)
+
+module _ {V L : Type 0} (rules : Rules L) (r r' : LimiterRef (MutBor L)) where
+  -- what a reference to a limiter sees of an attempt, the limiter sees, and the loan is kept
+  follows_lent : {E : Type 0} (e : Request V E) (outcome : AttemptOutcome E)
+      → Follows e (optional_rules (lent_rules rules)) (Some r) outcome (Some r')
+      → KeepsLoan r r' × Follows e (optional_rules rules) (lent_limiter r) outcome (lent_limiter r')
+  follows_lent e (Unasked cause) same = let is : r' ≡ r = cc in (rw is (loan_same r), ap lent_limiter is)
+  follows_lent e (Denied answer) asked = asked
+  follows_lent e Met asked = asked
+  follows_lent e (Failed cause answer) (Some p, asked, noticed) =
+      (loan_kept r p r' asked.0 noticed.0, (lent_limiter p, asked.1, noticed.1))
+  follows_lent e (Failed cause answer) (None, asked, noticed) = absurd asked
+
+  module _ (v v' : V) (m m' : Option Meter) where
+    -- an attempt under a reference to a limiter is one under the limiter, and keeps the loan
+    attempt_lent : {E : Type 0} (e : Request V E) (outcome : AttemptOutcome E) (charge : ℕ)
+        → Attempt (optional_rules (lent_rules rules)) e (metered_value v m (Some r)) outcome charge
+        (metered_value v' m' (Some r'))
+        → KeepsLoan r r' × Attempt (optional_rules rules) e (metered_value v m (lent_limiter r)) outcome charge
+        (metered_value v' m' (lent_limiter r'))
+    attempt_lent e outcome charge a =
+        let seen = follows_lent e outcome a.follows in (
+          seen.0,
+          record {
+            may_end = a.may_end;
+            follows = seen.1;
+            charged = a.charged;
+            meter = a.meter;
+            value = a.value;
+          },
+        )
+
+    -- where nothing changed, the loan is kept, and nothing changed for the limiter
+    pub same_lent : metered_value v' m' (Some r') ≡ metered_value v m (Some r)
+        → KeepsLoan r r' × (metered_value v' m' (lent_limiter r') ≡ metered_value v m (lent_limiter r))
+    same_lent same =
+        let lent : Some r' ≡ Some r = ap (λ (s : MeteredValue V (Option (LimiterRef (MutBor L)))). s.limiter) same in
+        let is : r' ≡ r = cc in (
+          rw is (loan_same r),
+          ap (λ (s : MeteredValue V (Option (LimiterRef (MutBor L)))).
+              metered_value s.value s.meter (option_and_then lent_limiter s.limiter)) same,
+        )
+
+    -- a growth under a reference to a limiter is one under the limiter, and keeps the loan
+    pub grows_lent : {E : Type 0} (g : Growth V E) (result : Result ℕ E) (charge : ℕ)
+        → Grows (optional_rules (lent_rules rules)) g (metered_value v m (Some r)) result charge
+        (metered_value v' m' (Some r'))
+        → KeepsLoan r r' × Grows (optional_rules rules) g (metered_value v m (lent_limiter r)) result charge
+        (metered_value v' m' (lent_limiter r'))
+    grows_lent g result charge grows = (
+      elim grows [
+        | inl none ↦ (same_lent none.same).0
+        | inr some ↦ (attempt_lent g.request some.outcome charge some.attempt).0
+      ],
+      grows_too g g.request (λ same. (same_lent same).1)
+          (λ outcome answered a. (answered, (attempt_lent g.request outcome charge a).1)) grows,
+    )
+
+-- a creation under a reference to a limiter is one under the limiter, and keeps the loan
+pub makes_lent : {T E L : Type 0} (rules : Rules L) (r r' : LimiterRef (MutBor L)) (e : Request (Unit {0}) E) (made : T)
+    (result : Result T E) → Makes (optional_rules (lent_rules rules)) e made (Some r) result (Some r')
+    → KeepsLoan r r' × Makes (optional_rules rules) e made (lent_limiter r) result (lent_limiter r')
+makes_lent rules r r' e made result (outcome, attempt, answered) =
+    let seen = attempt_lent rules r r' tt tt None None e outcome 0 attempt in (seen.0, (outcome, seen.1, answered))
 
 -- what is left, or less, can be paid
 pub payable : (m : Meter) (n : ℕ) → n ≤ amount_left m → covers (Some m) n ≡ true

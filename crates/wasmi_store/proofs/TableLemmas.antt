@@ -1,12 +1,16 @@
--- The making and the growth of a table, by what was tested on the way, and the sizes and types of tables.
+-- The making and the growth of a table, by what was tested on the way or under a reference to a limiter, and the sizes
+-- and types of tables.
 use Rattle.std.proofs.Common.{◌≡◌, ℕ, ◌+◌, true, Option, Some, None, Result, Ok, List, ◌++◌, length, replicate, refl, ap, arith, length-append}
-use Rattle.wasmi_store.proofs.Common.{cond-true, length-replicate, CustomFuelCosts, TableError, GrowOutOfBounds, Question, Answer, Rules, Meter, due, TableTypeValue, is_indexable, is_within_maximum, same_type, TableValue, size_of, element_price, GrowsTableCharging, IsAsked, metered_value}
+use Rattle.wasmi_store.proofs.Common.{cond-true, length-replicate, CustomFuelCosts, TableError, GrowOutOfBounds, Question, Answer, Rules, KeepsLoan, optional_rules, Meter, due, TableTypeValue, is_indexable, is_within_maximum, same_type, TableValue, size_of, element_price, GrowsTableCharging, IsAsked, metered_value}
 use Rattle.wasmi_types.specs.declared.value.RefType.{RefType}
 use Rattle.wasmi_types.specs.declared.value.RefType.TheVariants.{Func, Extern}
 use Rattle.wasmi_typed.specs.declared.typed_ref.TypedRawRef.{TypedRawRef}
+use Rattle.std.specs.Borrow.{MutBor}
 use Rattle.wasmi_meter.specs.declared.limiter.Kind.TheVariants.{Elements}
+use Rattle.wasmi_meter.specs.declared.limiter.LimiterRef.{LimiterRef}
+use Rattle.wasmi_meter.specs.Limiter.{lent_limiter, lent_rules}
 use Rattle.wasmi_store.specs.Table.{IsSized, creation_of, growth_of, table_growth}
-use Rattle.wasmi_store.proofs.GrowthLemmas.{permitted_by, growing, PermitsGrowth, on_test_too}
+use Rattle.wasmi_store.proofs.GrowthLemmas.{permitted_by, growing, PermitsGrowth, on_test, on_test_too}
 use Rattle.wasmi_store.proofs.GrowthLemmas as any
 
 -- a reference type, as that of a table's elements, is the same as itself
@@ -71,3 +75,19 @@ grows_unmetered rules n init x x' l l' costs m' result charge =
     on_test_too (same_type x.ty.element init.ty) _ _ _ _
     (any.grows_unmetered rules n (size_of x) (growth_of x n init.raw) (element_price n) x l costs s')
     (λ refused. (refused.0, refused.1, ap (λ s. metered_value s.value None s.limiter) refused.2))
+
+-- a table's growth by a typed reference under a reference to a limiter is one under the limiter, and keeps the loan
+pub grows_lent : {L : Type 0} (rules : Rules L) (r r' : LimiterRef (MutBor L)) (x x' : TableValue) (m m' : Option Meter)
+    (n : ℕ) (init : TypedRawRef) (result : Result ℕ TableError) (charge : ℕ)
+    → GrowsTableCharging (optional_rules (lent_rules rules)) n init (metered_value x m (Some r)) result charge
+    (metered_value x' m' (Some r'))
+    → KeepsLoan r r'
+    × GrowsTableCharging (optional_rules rules) n init (metered_value x m (lent_limiter r)) result charge
+    (metered_value x' m' (lent_limiter r'))
+grows_lent rules r r' x x' m m' n init result charge grows =
+    let raw = any.grows_lent rules r r' x x' m m' (table_growth n init.raw x) result charge in
+    let same = any.same_lent rules r r' x x' m m' in (
+      on_test (same_type x.ty.element init.ty) _ _ grows (λ grown. (raw grown).0) (λ refused. (same refused.2).0),
+      on_test_too (same_type x.ty.element init.ty) _ _ _ _ (λ grown. (raw grown).1)
+          (λ refused. (refused.0, refused.1, (same refused.2).1)) grows,
+    )

@@ -1,11 +1,11 @@
 //! What every creation and growth does with its limiter's answers and its meter, whatever it is
 //! that grows; and what making and growing a memory decides, wherever its bytes lie. Own: upstream
 //! writes these steps in each function that grows something.
-ghost use Rattle.std.specs.Prelude.{◌≡◌, ◌-◌, ◌<◌, ℕ, Ok, Err, OnOk, IfOk, IfErr, true};
+ghost use Rattle.std.specs.Prelude.{◌≡◌, ◌-◌, ◌<◌, ℕ, Some, Ok, Err, OnOk, IfOk, IfErr, true};
 ghost use Rattle.wasmi_meter.specs.declared.error.MemoryError.{MemoryError};
 ghost use Rattle.wasmi_meter.specs.declared.error.TableError.{TableError};
 ghost use Rattle.wasmi_meter.specs.Attempt.{Permits, error_of_failure};
-ghost use Rattle.wasmi_meter.specs.Limiter.{Failure, MemoryFailure, TableFailure, NoticeAnswer, optional_rules, lent_limiter, KeepsLoan};
+ghost use Rattle.wasmi_meter.specs.Limiter.{Failure, MemoryFailure, TableFailure, NoticeAnswer, optional_rules};
 ghost use Rattle.wasmi_meter.specs.Meter.{copy_cost, Charges, due};
 ghost use Rattle.wasmi_store.specs.Buffer.{fits_room};
 ghost use Rattle.wasmi_store.specs.Growth.{metered_value, IsAsked};
@@ -13,8 +13,7 @@ ghost use Rattle.wasmi_store.specs.Memory.{MemoryValue, PermitsMinimum, GrowsMem
 
 use crate::memory::MemoryType;
 use wasmi_meter::{
-    Fuel, FuelError, LimiterError, MemoryError, ResourceLimiter, ResourceLimiterRef, TableError,
-    ValueSize,
+    Fuel, FuelError, LimiterError, MemoryError, ResourceLimiter, TableError, ValueSize,
 };
 
 /// The error of a memory if the limiter returns an error.
@@ -50,14 +49,10 @@ pub trait GrowthError: Drop {
     fn out_of_fuel(required_fuel: u64) -> Self
         ensures { result ≡ unpaid required_fuel };
 
-    /// Notifies the limiter, if any, that a growth which it permitted failed with this error.
-    fn notify<L: ResourceLimiter>(
-        &self,
-        limiter: &mut ResourceLimiterRef<L>,
-    ) -> Result<(), LimiterError>
-        ensures loan { KeepsLoan limiter.old limiter.new }
-        ensures noticed { (optional_rules L.rules).noticed
-            (lent_limiter limiter.old) (notice self.now) result (lent_limiter limiter.new) };
+    /// Notifies the limiter that a growth which it permitted failed with this error.
+    fn notify<L: ResourceLimiter>(&self, limiter: &mut L) -> Result<(), LimiterError>
+        ensures { (optional_rules L.rules).noticed (Some limiter.old) (notice self.now) result
+            (Some limiter.new) };
 }
 
 impl GrowthError for MemoryError {
@@ -69,10 +64,7 @@ impl GrowthError for MemoryError {
         MemoryError::OutOfFuel { required_fuel }
     }
 
-    fn notify<L: ResourceLimiter>(
-        &self,
-        limiter: &mut ResourceLimiterRef<L>,
-    ) -> Result<(), LimiterError> {
+    fn notify<L: ResourceLimiter>(&self, limiter: &mut L) -> Result<(), LimiterError> {
         limiter.memory_grow_failed(self)
     }
 }
@@ -86,25 +78,17 @@ impl GrowthError for TableError {
         TableError::OutOfFuel { required_fuel }
     }
 
-    fn notify<L: ResourceLimiter>(
-        &self,
-        limiter: &mut ResourceLimiterRef<L>,
-    ) -> Result<(), LimiterError> {
+    fn notify<L: ResourceLimiter>(&self, limiter: &mut L) -> Result<(), LimiterError> {
         limiter.table_grow_failed(self)
     }
 }
 
 /// Notifies the limiter why a growth that it permitted failed. Returns the cause, or `refusal` if
 /// the limiter answers the notice with an error.
-pub fn tell<L: ResourceLimiter, E: GrowthError>(
-    limiter: &mut ResourceLimiterRef<L>,
-    cause: E,
-    refusal: E,
-) -> E
-    ensures loan { KeepsLoan limiter.old limiter.new }
-    ensures told { (notice_answer : NoticeAnswer)
-        × (optional_rules L.rules).noticed (lent_limiter limiter.old) (E.notice cause) notice_answer
-        (lent_limiter limiter.new) × (result ≡ error_of_failure refusal cause notice_answer) }
+pub fn tell<L: ResourceLimiter, E: GrowthError>(limiter: &mut L, cause: E, refusal: E) -> E
+    ensures { (notice_answer : NoticeAnswer)
+        × (optional_rules L.rules).noticed (Some limiter.old) (E.notice cause) notice_answer
+        (Some limiter.new) × (result ≡ error_of_failure refusal cause notice_answer) }
 {
     let notice_answer = cause.notify(limiter);
     match notice_answer {
@@ -132,11 +116,10 @@ pub fn charge<T: ValueSize>(fuel: &mut Fuel, values: u64) -> Result<(), u64>
 /// Asks whether a memory of a type may be made, and returns its minimum in bytes.
 pub fn permitted_minimum<L: ResourceLimiter>(
     ty: MemoryType,
-    limiter: &mut ResourceLimiterRef<L>,
+    limiter: &mut L,
 ) -> Result<usize, MemoryError>
-    ensures loan { KeepsLoan limiter.old limiter.new }
-    ensures permitted { PermitsMinimum (optional_rules L.rules) ty (lent_limiter limiter.old) result
-        (lent_limiter limiter.new) }
+    ensures permitted { PermitsMinimum (optional_rules L.rules) ty (Some limiter.old) result
+        (Some limiter.new) }
     ensures sized { IfOk result (λ size. IsSized ty size) }
 {
     let Some(size) = ty.minimum_size() else {
@@ -160,12 +143,11 @@ pub fn decide_growth<L: ResourceLimiter>(
     maximum: Option<usize>,
     has_room: bool,
     fuel: &mut Fuel,
-    limiter: &mut ResourceLimiterRef<L>,
+    limiter: &mut L,
 ) -> Result<(), MemoryError>
     requires grows { old_size < size }
-    ensures loan { KeepsLoan limiter.old limiter.new }
-    ensures permitted { OnOk result ((optional_rules L.rules).asked (lent_limiter limiter.old)
-        (size_question old_size size maximum) (Ok true) (lent_limiter limiter.new)) }
+    ensures permitted { OnOk result ((optional_rules L.rules).asked (Some limiter.old)
+        (size_question old_size size maximum) (Ok true) (Some limiter.new)) }
     ensures room { OnOk result (has_room ≡ true) }
     ensures paid { OnOk result (Charges fuel.old
         (due fuel.old (λ costs. copy_cost costs (size - old_size) 1)) (Ok tt) fuel.new) }
@@ -173,8 +155,8 @@ pub fn decide_growth<L: ResourceLimiter>(
         → IsAsked (growth_of x pages) (size_question old_size size maximum)
         → fits_room x.room (size - old_size) ≡ has_room
         → GrowsMemory (optional_rules L.rules) pages
-        (metered_value x (Some fuel.old) (lent_limiter limiter.old)) (Err error)
-        (metered_value x (Some fuel.new) (lent_limiter limiter.new))) }
+        (metered_value x (Some fuel.old) (Some limiter.old)) (Err error)
+        (metered_value x (Some fuel.new) (Some limiter.new))) }
 {
     let answer = limiter.memory_growing(old_size, size, maximum);
     permission(answer, MemoryError::OutOfBoundsGrowth, MEMORY_DENIED)?;

@@ -59,11 +59,7 @@ impl<'r> LinearMemory<&'r mut [u8]> {
         ensures made { MakesMemory (optional_rules L.rules) Owned ty
             (lent_limiter limiter.old) result (lent_limiter limiter.new) }
     {
-        let size = permitted_minimum(ty, limiter)?;
-        match Buffer::new(alloc, size) {
-            Ok(buffer) => Ok(LinearMemory { buffer, ty }),
-            Err(cause) => Err(tell(limiter, cause, DENIED)),
-        }
+        Memory::new_lending(alloc, ty, limiter)
     }
 
     /// A memory of zeros at the front of a borrowed buffer, at the minimum of its type. It takes no
@@ -76,6 +72,18 @@ impl<'r> LinearMemory<&'r mut [u8]> {
         ensures loan { KeepsLoan limiter.old limiter.new }
         ensures made { MakesMemory (optional_rules L.rules) (Lent region.entry.now) ty
             (lent_limiter limiter.old) result (lent_limiter limiter.new) }
+    {
+        Memory::new_static_lending(ty, limiter, region)
+    }
+
+    /// As `new_static`, with a limiter that is known again after this call.
+    pub fn new_static_lending<L: ResourceLimiter>(
+        ty: MemoryType,
+        limiter: &mut L,
+        region: &'r mut [u8],
+    ) -> Result<Memory<'r>, MemoryError>
+        ensures { MakesMemory (optional_rules L.rules) (Lent region.entry.now) ty
+            (Some limiter.old) result (Some limiter.new) }
     {
         let size = permitted_minimum(ty, limiter)?;
         match Buffer::new_static(region, size) {
@@ -93,10 +101,11 @@ impl<'r> LinearMemory<&'r mut [u8]> {
         ensures { MakesMemory (optional_rules L.rules) Owned ty (Some limiter.old) result
             (Some limiter.new) }
     {
-        let mut lent = ResourceLimiterRef::from(limiter);
-        let made = Memory::new(alloc, ty, &mut lent);
-        let _limiter = lent.into_limiter();
-        made
+        let size = permitted_minimum(ty, limiter)?;
+        match Buffer::new(alloc, size) {
+            Ok(buffer) => Ok(LinearMemory { buffer, ty }),
+            Err(cause) => Err(tell(limiter, cause, DENIED)),
+        }
     }
 }
 
@@ -193,6 +202,20 @@ impl<R: Region> LinearMemory<R> {
             (metered_value self.old (Some fuel.old) (lent_limiter limiter.old)) result
             (metered_value self.new (Some fuel.new) (lent_limiter limiter.new)) }
     {
+        self.grow_lending(additional, fuel, limiter)
+    }
+
+    /// As `grow_metered`, with a limiter that is known again after this call.
+    pub fn grow_lending<L: ResourceLimiter>(
+        &mut self,
+        additional: u64,
+        fuel: &mut Fuel,
+        limiter: &mut L,
+    ) -> Result<u64, MemoryError>
+        ensures { GrowsMemory (optional_rules L.rules) additional
+            (metered_value self.old (Some fuel.old) (Some limiter.old)) result
+            (metered_value self.new (Some fuel.new) (Some limiter.new)) }
+    {
         let old_pages = self.size();
         if additional == 0 {
             return Ok(old_pages);
@@ -208,23 +231,6 @@ impl<R: Region> LinearMemory<R> {
             return Err(tell(limiter, cause, DENIED));
         }
         Ok(old_pages)
-    }
-
-    /// As `grow_metered`, with a limiter that is known again after this call.
-    pub fn grow_lending<L: ResourceLimiter>(
-        &mut self,
-        additional: u64,
-        fuel: &mut Fuel,
-        limiter: &mut L,
-    ) -> Result<u64, MemoryError>
-        ensures { GrowsMemory (optional_rules L.rules) additional
-            (metered_value self.old (Some fuel.old) (Some limiter.old)) result
-            (metered_value self.new (Some fuel.new) (Some limiter.new)) }
-    {
-        let mut lent = ResourceLimiterRef::from(limiter);
-        let grown = self.grow_metered(additional, fuel, &mut lent);
-        let _limiter = lent.into_limiter();
-        grown
     }
 
     /// Fills a buffer with the bytes from an offset on.

@@ -62,6 +62,19 @@ impl Table {
         ensures made { MakesTable (optional_rules L.rules) ty init (lent_limiter limiter.old) result
             (lent_limiter limiter.new) }
     {
+        Table::new_lending(alloc, ty, init, limiter)
+    }
+
+    /// As `new`, with a limiter that is known again after this call.
+    pub fn new_lending<L: ResourceLimiter>(
+        alloc: Global,
+        ty: TableType,
+        init: TypedRawRef,
+        limiter: &mut L,
+    ) -> Result<Self, TableError>
+        ensures { MakesTable (optional_rules L.rules) ty init (Some limiter.old) result
+            (Some limiter.new) }
+    {
         ty.ensure_element_type_matches(init.ty)?;
         let Ok(size) = usize::try_from(ty.minimum()) else {
             return Err(TableError::MinimumSizeOverflow);
@@ -76,22 +89,6 @@ impl Table {
             }),
             Err(_) => Err(tell(limiter, TableError::OutOfSystemMemory, DENIED)),
         }
-    }
-
-    /// As `new`, with a limiter that is known again after this call.
-    pub fn new_lending<L: ResourceLimiter>(
-        alloc: Global,
-        ty: TableType,
-        init: TypedRawRef,
-        limiter: &mut L,
-    ) -> Result<Self, TableError>
-        ensures { MakesTable (optional_rules L.rules) ty init (Some limiter.old) result
-            (Some limiter.new) }
-    {
-        let mut lent = ResourceLimiterRef::from(limiter);
-        let made = Table::new(alloc, ty, init, &mut lent);
-        let _limiter = lent.into_limiter();
-        made
     }
 
     /// Reserves memory for so many elements in all, those that are there included: until it has
@@ -162,8 +159,7 @@ impl Table {
             (metered_value self.old (Some fuel.old) (lent_limiter limiter.old)) result
             (metered_value self.new (Some fuel.new) (lent_limiter limiter.new)) }
     {
-        self.ty.ensure_element_type_matches(init.ty)?;
-        self.grow_raw_metered(delta, init.raw, fuel, limiter)
+        self.grow_lending(delta, init, fuel, limiter)
     }
 
     /// As `grow_metered`, with a limiter that is known again after this call.
@@ -178,10 +174,8 @@ impl Table {
             (metered_value self.old (Some fuel.old) (Some limiter.old)) result
             (metered_value self.new (Some fuel.new) (Some limiter.new)) }
     {
-        let mut lent = ResourceLimiterRef::from(limiter);
-        let grown = self.grow_metered(delta, init, fuel, &mut lent);
-        let _limiter = lent.into_limiter();
-        grown
+        self.ty.ensure_element_type_matches(init.ty)?;
+        self.grow_raw_metered(delta, init.raw, fuel, limiter)
     }
 
     /// Grows by `delta` elements, each the given reference, and returns the old size. A growth by 0
@@ -221,12 +215,11 @@ impl Table {
         delta: u64,
         init: RawRef,
         fuel: &mut Fuel,
-        limiter: &mut ResourceLimiterRef<L>,
+        limiter: &mut L,
     ) -> Result<u64, TableError>
-        ensures loan { KeepsLoan limiter.old limiter.new }
-        ensures grown { GrowsTableRaw (optional_rules L.rules) delta init
-            (metered_value self.old (Some fuel.old) (lent_limiter limiter.old)) result
-            (metered_value self.new (Some fuel.new) (lent_limiter limiter.new)) }
+        ensures { GrowsTableRaw (optional_rules L.rules) delta init
+            (metered_value self.old (Some fuel.old) (Some limiter.old)) result
+            (metered_value self.new (Some fuel.new) (Some limiter.new)) }
     {
         if delta == 0 {
             return Ok(self.size());
@@ -242,13 +235,12 @@ impl Table {
         delta: u64,
         init: RawRef,
         fuel: &mut Fuel,
-        limiter: &mut ResourceLimiterRef<L>,
+        limiter: &mut L,
     ) -> Result<u64, TableError>
         requires asked { delta ≢ 0 }
-        ensures loan { KeepsLoan limiter.old limiter.new }
         ensures grown { GrowsTableRaw (optional_rules L.rules) delta init
-            (metered_value self.old (Some fuel.old) (lent_limiter limiter.old)) result
-            (metered_value self.new (Some fuel.new) (lent_limiter limiter.new)) }
+            (metered_value self.old (Some fuel.old) (Some limiter.old)) result
+            (metered_value self.new (Some fuel.new) (Some limiter.new)) }
     {
         let size = self.elements.len();
         let Some(desired) = self.ty.grown_size(size as u64, delta) else {

@@ -1189,7 +1189,7 @@ mod memories {
     use crate::proved::machine::calls::{ByteList, Reply};
     use crate::proved::machine::data::{DataSegment, copy_of_bytes};
     use crate::proved::machine::slots::{Slot, Slots};
-    use crate::proved::meter::{Fuel, MemoryError, ResourceLimiter, ResourceLimiterRef};
+    use crate::proved::meter::{Fuel, MemoryError, ResourceLimiter};
     use crate::proved::ops::{LoadLaneOp, LoadOp, StoreLaneOp, StoreOp, VectorLoadOp};
     use crate::proved::raw::{RawVal, V128};
     use crate::proved::store::range::lies_within;
@@ -1203,27 +1203,26 @@ mod memories {
         /// # Contract
         ///
         /// ```text
-        /// ensures loan: KeepsLoan limiter.old limiter.new
         /// ensures made: Creates Reply.Memory
         ///     (MakesMemory (optional_rules L.rules) Owned ty) self.old.slots.items
-        ///     (lent_limiter limiter.old) result self.new.slots.items (lent_limiter limiter.new)
+        ///     (Some limiter.old) result self.new.slots.items (Some limiter.new)
         /// ensures room: IfNoRoom result (self.old.slots.reserved ≤ length self.old.slots.items)
         /// ensures reserved: self.new.slots.reserved ≡ self.old.slots.reserved
         /// ```
         ///
-        /// Definitions: [`KeepsLoan`](crate::specs::meter::LimiterSpecs#KeepsLoan), [`Creates`](crate::specs::machine::EffectsSpecs#Creates), [`MakesMemory`](crate::specs::store::MemorySpecs#MakesMemory), [`optional_rules`](crate::specs::meter::LimiterSpecs#optional_rules), [`Owned`](crate::specs::store::BufferSpecs#Owned), [`lent_limiter`](crate::specs::meter::LimiterSpecs#lent_limiter), [`IfNoRoom`](crate::specs::machine::EffectsSpecs#IfNoRoom).
+        /// Definitions: [`Creates`](crate::specs::machine::EffectsSpecs#Creates), [`MakesMemory`](crate::specs::store::MemorySpecs#MakesMemory), [`optional_rules`](crate::specs::meter::LimiterSpecs#optional_rules), [`Owned`](crate::specs::store::BufferSpecs#Owned), [`IfNoRoom`](crate::specs::machine::EffectsSpecs#IfNoRoom).
         ///
         /// `L` is the type of the limiter, a [`ResourceLimiter`](crate::machine::ResourceLimiter#contract).
         #[inline(always)]
         pub(crate) fn create<L: ResourceLimiter>(
             &mut self,
             ty: MemoryType,
-            limiter: &mut ResourceLimiterRef<L>,
+            limiter: &mut L,
         ) -> Reply {
             if self.slots.try_reserve(1).is_err() {
                 return Reply::NoRoom;
             }
-            match Memory::new(ty, limiter) {
+            match Memory::new_lending(ty, limiter) {
                 Ok(memory) => Reply::Made(self.push(memory)),
                 Err(error) => Reply::Memory(error),
             }
@@ -1234,17 +1233,16 @@ mod memories {
         /// # Contract
         ///
         /// ```text
-        /// ensures loan: KeepsLoan limiter.old limiter.new
         /// ensures made: CreatesLent (optional_rules L.rules) ty
         ///     (record { slots = self.old.slots.items; spare = option_copied_mut spare.old })
-        ///     (lent_limiter limiter.old) result
+        ///     (Some limiter.old) result
         ///     (record { slots = self.new.slots.items; spare = option_copied_mut spare.new })
-        ///     (lent_limiter limiter.new)
+        ///     (Some limiter.new)
         /// ensures room: IfNoRoom result (self.old.slots.reserved ≤ length self.old.slots.items)
         /// ensures reserved: self.new.slots.reserved ≡ self.old.slots.reserved
         /// ```
         ///
-        /// Definitions: [`KeepsLoan`](crate::specs::meter::LimiterSpecs#KeepsLoan), [`CreatesLent`](crate::specs::machine::MemoryEffectsSpecs#CreatesLent), [`optional_rules`](crate::specs::meter::LimiterSpecs#optional_rules), [`lent_limiter`](crate::specs::meter::LimiterSpecs#lent_limiter), [`IfNoRoom`](crate::specs::machine::EffectsSpecs#IfNoRoom).
+        /// Definitions: [`CreatesLent`](crate::specs::machine::MemoryEffectsSpecs#CreatesLent), [`optional_rules`](crate::specs::meter::LimiterSpecs#optional_rules), [`IfNoRoom`](crate::specs::machine::EffectsSpecs#IfNoRoom).
         ///
         /// `L` is the type of the limiter, a [`ResourceLimiter`](crate::machine::ResourceLimiter#contract).
         #[inline(always)]
@@ -1252,13 +1250,13 @@ mod memories {
             &mut self,
             ty: MemoryType,
             spare: &mut Option<&'r mut [u8]>,
-            limiter: &mut ResourceLimiterRef<L>,
+            limiter: &mut L,
         ) -> Reply {
             let Some(region) = spare.take() else {
                 return Reply::NoRegion;
             };
             if self.slots.try_reserve(1).is_ok() {
-                match Memory::new_static(ty, limiter, region) {
+                match Memory::new_static_lending(ty, limiter, region) {
                     Ok(memory) => Reply::Made(self.push(memory)),
                     Err(error) => Reply::Memory(error),
                 }
@@ -1876,8 +1874,7 @@ mod running {
             call: &Call,
             limiter: &mut ResourceLimiterRef<L>,
         ) -> Reply {
-            call.tell_valid();
-            self.store.step(call, limiter)
+            self.step_lending(call, limiter)
         }
 
         /// Grows a memory by so many pages, as `step_lending` does for `Call::GrowMemory`. The reply is
@@ -1902,9 +1899,7 @@ mod running {
             pages: u64,
             limiter: &mut L,
         ) -> Reply {
-            let mut lent = ResourceLimiterRef::from(limiter);
-            let reply = self.store.grow_memory(memory, pages, &mut lent);
-            let _limiter = lent.into_limiter();
+            let reply = self.store.grow_memory(memory, pages, limiter);
             reply.unwrap_or(Reply::NoSuch)
         }
 
@@ -1924,10 +1919,8 @@ mod running {
         /// `L` is the type of the limiter, a [`ResourceLimiter`](crate::machine::ResourceLimiter#contract).
         #[inline(always)]
         pub fn step_lending<L: ResourceLimiter>(&mut self, call: &Call, limiter: &mut L) -> Reply {
-            let mut lent = ResourceLimiterRef::from(limiter);
-            let reply = self.step(call, &mut lent);
-            let _limiter = lent.into_limiter();
-            reply
+            call.tell_valid();
+            self.store.step(call, limiter)
         }
     }
 
@@ -1957,13 +1950,7 @@ mod running {
         calls: &[Call],
         limiter: &mut ResourceLimiterRef<L>,
     ) -> Result<Vec<Reply>, AllocError> {
-        machine.tell_valid();
-        let mut replies = Vec::with_capacity(calls.len())?;
-        for call in calls {
-            let reply = machine.step(call, limiter);
-            replies.push_reserved(reply);
-        }
-        Ok(replies)
+        run_lending(machine, calls, limiter)
     }
 
     /// Executes calls, as `run`, but only borrows the limiter, so its state afterwards is known.
@@ -1991,10 +1978,13 @@ mod running {
         calls: &[Call],
         limiter: &mut L,
     ) -> Result<Vec<Reply>, AllocError> {
-        let mut lent = ResourceLimiterRef::from(limiter);
-        let replies = run(machine, calls, &mut lent);
-        let _limiter = lent.into_limiter();
-        replies
+        machine.tell_valid();
+        let mut replies = Vec::with_capacity(calls.len())?;
+        for call in calls {
+            let reply = machine.step_lending(call, limiter);
+            replies.push_reserved(reply);
+        }
+        Ok(replies)
     }
 
     /// Executes calls, as `run`, under a limiter that holds exactly what the machine has, also after.
@@ -2067,16 +2057,7 @@ mod running {
         limiter: &mut ResourceLimiterRef<L>,
         replies: &mut Replies,
     ) -> Result<(), TooManyCalls> {
-        machine.tell_valid();
-        if replies.capacity() < calls.len() {
-            return Err(TooManyCalls);
-        }
-        replies.clear();
-        for call in calls {
-            let reply = machine.step(call, limiter);
-            replies.push(reply);
-        }
-        Ok(())
+        run_into_lending(machine, calls, limiter, replies)
     }
 
     /// Executes calls, as `run_into`, but only borrows the limiter, so its state afterwards is known.
@@ -2108,10 +2089,16 @@ mod running {
         limiter: &mut L,
         replies: &mut Replies,
     ) -> Result<(), TooManyCalls> {
-        let mut lent = ResourceLimiterRef::from(limiter);
-        let result = run_into(machine, calls, &mut lent, replies);
-        let _limiter = lent.into_limiter();
-        result
+        machine.tell_valid();
+        if replies.capacity() < calls.len() {
+            return Err(TooManyCalls);
+        }
+        replies.clear();
+        for call in calls {
+            let reply = machine.step_lending(call, limiter);
+            replies.push(reply);
+        }
+        Ok(())
     }
 
     /// Executes calls, as `run_into`, under a limiter that holds what the machine has, also after.
@@ -2570,7 +2557,7 @@ mod store {
     use crate::proved::machine::values::{
         create_data, create_global, create_segment, drop_data, drop_items, get_global, set_global,
     };
-    use crate::proved::meter::{Fuel, ResourceLimiter, ResourceLimiterRef};
+    use crate::proved::meter::{Fuel, ResourceLimiter};
     use crate::proved::store::{ElementSegment, Memory, Table};
     use crate::proved::typed::Global;
     use crate::rattle::alloc::AllocError;
@@ -2646,13 +2633,12 @@ mod store {
         /// # Contract
         ///
         /// ```text
-        /// ensures loan: KeepsLoan limiter.old limiter.new
-        /// ensures step: RepliesWith (optional_rules L.rules) (GrowMemory memory pages)
-        ///     (world self.old (lent_limiter limiter.old)) (reply_or_no_such result)
-        ///     (world self.new (lent_limiter limiter.new))
+        /// ensures: RepliesWith (optional_rules L.rules) (GrowMemory memory pages)
+        ///     (world self.old (Some limiter.old)) (reply_or_no_such result)
+        ///     (world self.new (Some limiter.new))
         /// ```
         ///
-        /// Definitions: [`KeepsLoan`](crate::specs::meter::LimiterSpecs#KeepsLoan), [`RepliesWith`](crate::specs::machine::StepsSpecs#RepliesWith), [`optional_rules`](crate::specs::meter::LimiterSpecs#optional_rules), [`world`](crate::specs::machine::StateSpecs#world), [`lent_limiter`](crate::specs::meter::LimiterSpecs#lent_limiter), [`reply_or_no_such`](crate::specs::machine::EffectsSpecs#reply_or_no_such).
+        /// Definitions: [`RepliesWith`](crate::specs::machine::StepsSpecs#RepliesWith), [`optional_rules`](crate::specs::meter::LimiterSpecs#optional_rules), [`world`](crate::specs::machine::StateSpecs#world), [`reply_or_no_such`](crate::specs::machine::EffectsSpecs#reply_or_no_such).
         ///
         /// `L` is the type of the limiter, a [`ResourceLimiter`](crate::machine::ResourceLimiter#contract).
         #[inline(always)]
@@ -2660,31 +2646,26 @@ mod store {
             &mut self,
             memory: usize,
             pages: u64,
-            limiter: &mut ResourceLimiterRef<L>,
+            limiter: &mut L,
         ) -> Option<Reply> {
             let memory = self.memories.live_mut(memory)?;
-            let grown = memory.grow_metered(pages, &mut self.fuel, limiter);
+            let grown = memory.grow_lending(pages, &mut self.fuel, limiter);
             Some(grown.map_or_else(Reply::Memory, Reply::Number))
         }
 
         /// # Contract
         ///
         /// ```text
-        /// ensures loan: KeepsLoan limiter.old limiter.new
-        /// ensures step: RepliesWith (optional_rules L.rules) call.now
-        ///     (world self.old (lent_limiter limiter.old)) result
-        ///     (world self.new (lent_limiter limiter.new))
+        /// ensures: RepliesWith (optional_rules L.rules) call.now
+        ///     (world self.old (Some limiter.old)) result
+        ///     (world self.new (Some limiter.new))
         /// ```
         ///
-        /// Definitions: [`KeepsLoan`](crate::specs::meter::LimiterSpecs#KeepsLoan), [`RepliesWith`](crate::specs::machine::StepsSpecs#RepliesWith), [`optional_rules`](crate::specs::meter::LimiterSpecs#optional_rules), [`world`](crate::specs::machine::StateSpecs#world), [`lent_limiter`](crate::specs::meter::LimiterSpecs#lent_limiter).
+        /// Definitions: [`RepliesWith`](crate::specs::machine::StepsSpecs#RepliesWith), [`optional_rules`](crate::specs::meter::LimiterSpecs#optional_rules), [`world`](crate::specs::machine::StateSpecs#world).
         ///
         /// `L` is the type of the limiter, a [`ResourceLimiter`](crate::machine::ResourceLimiter#contract).
         #[inline(always)]
-        pub(crate) fn step<L: ResourceLimiter>(
-            &mut self,
-            call: &Call,
-            limiter: &mut ResourceLimiterRef<L>,
-        ) -> Reply {
+        pub(crate) fn step<L: ResourceLimiter>(&mut self, call: &Call, limiter: &mut L) -> Reply {
             match call {
                 Call::SetFuel(fuel) => self
                     .fuel
@@ -2743,20 +2724,19 @@ mod store {
         ///
         /// ```text
         /// requires subject: subject_of call.now ≡ Memories
-        /// ensures loan: KeepsLoan limiter.old limiter.new
         /// ensures step: RepliesWith (optional_rules L.rules) call.now
-        ///     (world self.old (lent_limiter limiter.old)) (reply_or_no_such result)
-        ///     (world self.new (lent_limiter limiter.new))
+        ///     (world self.old (Some limiter.old)) (reply_or_no_such result)
+        ///     (world self.new (Some limiter.new))
         /// ```
         ///
-        /// Definitions: [`subject_of`](crate::specs::machine::StepsSpecs#subject_of), [`Memories`](crate::specs::machine::StepsSpecs#Memories), [`KeepsLoan`](crate::specs::meter::LimiterSpecs#KeepsLoan), [`RepliesWith`](crate::specs::machine::StepsSpecs#RepliesWith), [`optional_rules`](crate::specs::meter::LimiterSpecs#optional_rules), [`world`](crate::specs::machine::StateSpecs#world), [`lent_limiter`](crate::specs::meter::LimiterSpecs#lent_limiter), [`reply_or_no_such`](crate::specs::machine::EffectsSpecs#reply_or_no_such).
+        /// Definitions: [`subject_of`](crate::specs::machine::StepsSpecs#subject_of), [`Memories`](crate::specs::machine::StepsSpecs#Memories), [`RepliesWith`](crate::specs::machine::StepsSpecs#RepliesWith), [`optional_rules`](crate::specs::meter::LimiterSpecs#optional_rules), [`world`](crate::specs::machine::StateSpecs#world), [`reply_or_no_such`](crate::specs::machine::EffectsSpecs#reply_or_no_such).
         ///
         /// `L` is the type of the limiter, a [`ResourceLimiter`](crate::machine::ResourceLimiter#contract).
         #[inline(always)]
         fn step_memory<L: ResourceLimiter>(
             &mut self,
             call: &Call,
-            limiter: &mut ResourceLimiterRef<L>,
+            limiter: &mut L,
         ) -> Option<Reply> {
             match call {
                 Call::NewMemory(ty) => Some(self.memories.create(*ty, limiter)),
@@ -2826,20 +2806,19 @@ mod store {
         ///
         /// ```text
         /// requires subject: subject_of call.now ≡ Tables
-        /// ensures loan: KeepsLoan limiter.old limiter.new
         /// ensures step: RepliesWith (optional_rules L.rules) call.now
-        ///     (world self.old (lent_limiter limiter.old)) (reply_or_no_such result)
-        ///     (world self.new (lent_limiter limiter.new))
+        ///     (world self.old (Some limiter.old)) (reply_or_no_such result)
+        ///     (world self.new (Some limiter.new))
         /// ```
         ///
-        /// Definitions: [`subject_of`](crate::specs::machine::StepsSpecs#subject_of), [`Tables`](crate::specs::machine::StepsSpecs#Tables), [`KeepsLoan`](crate::specs::meter::LimiterSpecs#KeepsLoan), [`RepliesWith`](crate::specs::machine::StepsSpecs#RepliesWith), [`optional_rules`](crate::specs::meter::LimiterSpecs#optional_rules), [`world`](crate::specs::machine::StateSpecs#world), [`lent_limiter`](crate::specs::meter::LimiterSpecs#lent_limiter), [`reply_or_no_such`](crate::specs::machine::EffectsSpecs#reply_or_no_such).
+        /// Definitions: [`subject_of`](crate::specs::machine::StepsSpecs#subject_of), [`Tables`](crate::specs::machine::StepsSpecs#Tables), [`RepliesWith`](crate::specs::machine::StepsSpecs#RepliesWith), [`optional_rules`](crate::specs::meter::LimiterSpecs#optional_rules), [`world`](crate::specs::machine::StateSpecs#world), [`reply_or_no_such`](crate::specs::machine::EffectsSpecs#reply_or_no_such).
         ///
         /// `L` is the type of the limiter, a [`ResourceLimiter`](crate::machine::ResourceLimiter#contract).
         #[inline(always)]
         fn step_table<L: ResourceLimiter>(
             &mut self,
             call: &Call,
-            limiter: &mut ResourceLimiterRef<L>,
+            limiter: &mut L,
         ) -> Option<Reply> {
             match call {
                 Call::NewTable { ty, init } => Some(self.tables.create(*ty, *init, limiter)),
@@ -2989,7 +2968,7 @@ mod tables {
 
     use crate::proved::machine::calls::Reply;
     use crate::proved::machine::slots::{Slot, Slots};
-    use crate::proved::meter::{Fuel, ResourceLimiter, ResourceLimiterRef, TableError};
+    use crate::proved::meter::{Fuel, ResourceLimiter, TableError};
     use crate::proved::store::{ElementSegment, ElementSegmentRef, Table, TableType};
     use crate::proved::typed::TypedRawRef;
 
@@ -2999,15 +2978,14 @@ mod tables {
         /// # Contract
         ///
         /// ```text
-        /// ensures loan: KeepsLoan limiter.old limiter.new
         /// ensures made: Creates Reply.Table
         ///     (MakesTable (optional_rules L.rules) ty init) self.old.slots.items
-        ///     (lent_limiter limiter.old) result self.new.slots.items (lent_limiter limiter.new)
+        ///     (Some limiter.old) result self.new.slots.items (Some limiter.new)
         /// ensures room: IfNoRoom result (self.old.slots.reserved ≤ length self.old.slots.items)
         /// ensures reserved: self.new.slots.reserved ≡ self.old.slots.reserved
         /// ```
         ///
-        /// Definitions: [`KeepsLoan`](crate::specs::meter::LimiterSpecs#KeepsLoan), [`Creates`](crate::specs::machine::EffectsSpecs#Creates), [`MakesTable`](crate::specs::store::TableSpecs#MakesTable), [`optional_rules`](crate::specs::meter::LimiterSpecs#optional_rules), [`lent_limiter`](crate::specs::meter::LimiterSpecs#lent_limiter), [`IfNoRoom`](crate::specs::machine::EffectsSpecs#IfNoRoom).
+        /// Definitions: [`Creates`](crate::specs::machine::EffectsSpecs#Creates), [`MakesTable`](crate::specs::store::TableSpecs#MakesTable), [`optional_rules`](crate::specs::meter::LimiterSpecs#optional_rules), [`IfNoRoom`](crate::specs::machine::EffectsSpecs#IfNoRoom).
         ///
         /// `L` is the type of the limiter, a [`ResourceLimiter`](crate::machine::ResourceLimiter#contract).
         #[inline(always)]
@@ -3015,12 +2993,12 @@ mod tables {
             &mut self,
             ty: TableType,
             init: TypedRawRef,
-            limiter: &mut ResourceLimiterRef<L>,
+            limiter: &mut L,
         ) -> Reply {
             if self.slots.try_reserve(1).is_err() {
                 return Reply::NoRoom;
             }
-            match Table::new(ty, init, limiter) {
+            match Table::new_lending(ty, init, limiter) {
                 Ok(table) => Reply::Made(self.push(table)),
                 Err(error) => Reply::Table(error),
             }
@@ -3029,16 +3007,15 @@ mod tables {
         /// # Contract
         ///
         /// ```text
-        /// ensures loan: KeepsLoan limiter.old limiter.new
         /// ensures grown: WithCharge (ActsAt index (reply_of Reply.Number Reply.Table)
         ///     (GrowsTableCharging (optional_rules L.rules) delta init))
-        ///     (metered_value self.old.slots.items (Some fuel.old) (lent_limiter limiter.old))
+        ///     (metered_value self.old.slots.items (Some fuel.old) (Some limiter.old))
         ///     (reply_or_no_such result)
-        ///     (metered_value self.new.slots.items (Some fuel.new) (lent_limiter limiter.new))
+        ///     (metered_value self.new.slots.items (Some fuel.new) (Some limiter.new))
         /// ensures reserved: self.new.slots.reserved ≡ self.old.slots.reserved
         /// ```
         ///
-        /// Definitions: [`KeepsLoan`](crate::specs::meter::LimiterSpecs#KeepsLoan), [`WithCharge`](crate::specs::store::GrowthSpecs#WithCharge), [`ActsAt`](crate::specs::machine::EffectsSpecs#ActsAt), [`reply_of`](crate::specs::machine::EffectsSpecs#reply_of), [`GrowsTableCharging`](crate::specs::store::TableSpecs#GrowsTableCharging), [`optional_rules`](crate::specs::meter::LimiterSpecs#optional_rules), [`metered_value`](crate::specs::store::GrowthSpecs#metered_value), [`lent_limiter`](crate::specs::meter::LimiterSpecs#lent_limiter), [`reply_or_no_such`](crate::specs::machine::EffectsSpecs#reply_or_no_such).
+        /// Definitions: [`WithCharge`](crate::specs::store::GrowthSpecs#WithCharge), [`ActsAt`](crate::specs::machine::EffectsSpecs#ActsAt), [`reply_of`](crate::specs::machine::EffectsSpecs#reply_of), [`GrowsTableCharging`](crate::specs::store::TableSpecs#GrowsTableCharging), [`optional_rules`](crate::specs::meter::LimiterSpecs#optional_rules), [`metered_value`](crate::specs::store::GrowthSpecs#metered_value), [`reply_or_no_such`](crate::specs::machine::EffectsSpecs#reply_or_no_such).
         ///
         /// `L` is the type of the limiter, a [`ResourceLimiter`](crate::machine::ResourceLimiter#contract).
         #[inline(always)]
@@ -3048,10 +3025,10 @@ mod tables {
             delta: u64,
             init: TypedRawRef,
             fuel: &mut Fuel,
-            limiter: &mut ResourceLimiterRef<L>,
+            limiter: &mut L,
         ) -> Option<Reply> {
             let table = self.live_mut(index)?;
-            let grown = table.grow_metered(delta, init, fuel, limiter);
+            let grown = table.grow_lending(delta, init, fuel, limiter);
             Some(grown.map_or_else(Reply::Table, Reply::Number))
         }
 

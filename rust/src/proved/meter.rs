@@ -1520,6 +1520,94 @@ mod limiter {
             }
         }
     }
+
+    /// A reference to a limiter, or none, is a limiter.
+    ///
+    /// # Contract
+    ///
+    /// ```text
+    /// rules = lent_rules L.rules
+    /// ```
+    ///
+    /// Definitions: [`lent_rules`](crate::specs::meter::LimiterSpecs#lent_rules).
+    ///
+    /// `L` is the type of the limiter, a [`ResourceLimiter`](crate::machine::ResourceLimiter#contract).
+    impl<'a, L: ResourceLimiter> ResourceLimiter for LimiterRef<&'a mut L> {
+        #[inline]
+        fn memory_growing(
+            &mut self,
+            current: usize,
+            desired: usize,
+            maximum: Option<usize>,
+        ) -> Result<bool, LimiterError> {
+            self.memory_growing(current, desired, maximum)
+        }
+
+        #[inline]
+        fn table_growing(
+            &mut self,
+            current: usize,
+            desired: usize,
+            maximum: Option<usize>,
+        ) -> Result<bool, LimiterError> {
+            self.table_growing(current, desired, maximum)
+        }
+
+        #[inline]
+        fn memory_grow_failed(&mut self, error: &MemoryError) -> Result<(), LimiterError> {
+            self.memory_grow_failed(error)
+        }
+
+        #[inline]
+        fn table_grow_failed(&mut self, error: &TableError) -> Result<(), LimiterError> {
+            self.table_grow_failed(error)
+        }
+
+        /// # Contract
+        ///
+        /// ```text
+        /// ensures absent: loan self.now ≡ None → result ≡ usize.MAX
+        /// ```
+        ///
+        /// Definitions: [`loan`](crate::specs::meter::LimiterSpecs#loan).
+        #[inline]
+        fn instances(&self) -> usize {
+            match &self.limiter {
+                Some(limiter) => limiter.instances(),
+                None => usize::MAX,
+            }
+        }
+
+        /// # Contract
+        ///
+        /// ```text
+        /// ensures absent: loan self.now ≡ None → result ≡ usize.MAX
+        /// ```
+        ///
+        /// Definitions: [`loan`](crate::specs::meter::LimiterSpecs#loan).
+        #[inline]
+        fn tables(&self) -> usize {
+            match &self.limiter {
+                Some(limiter) => limiter.tables(),
+                None => usize::MAX,
+            }
+        }
+
+        /// # Contract
+        ///
+        /// ```text
+        /// ensures absent: loan self.now ≡ None → result ≡ usize.MAX
+        /// ```
+        ///
+        /// Definitions: [`loan`](crate::specs::meter::LimiterSpecs#loan).
+        #[inline]
+        fn memories(&self) -> usize {
+            match &self.limiter {
+                Some(limiter) => limiter.memories(),
+                None => usize::MAX,
+            }
+        }
+    }
 }
 mod quota {
     //! Limiters that count what they permitted: amounts by kind, what is held, taken, given back and

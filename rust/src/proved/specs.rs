@@ -2481,6 +2481,14 @@ abbrev pub <b id="LendsLimiter">LendsLimiter</b> : (R L : RattleType) → (R.Den
     → Option (MutBor L.Denot) → Fml
 <a href="../../meter/LimiterSpecs/index.html#LendsLimiter">LendsLimiter</a> R L last s r =
     LendsIf (the_row R) L s r (λ l. record s.now { limiter = option_map (λ lender. last lender l) s.now.limiter }) s.now
+
+-- the rules of a reference to a limiter, if there is one: those of the limiter, and it leads to what it led to
+abbrev pub <b id="lent_rules">lent_rules</b> : {L : Type 0} → <a href="../../meter/LimiterSpecs/index.html#Rules">Rules</a> L → <a href="../../meter/LimiterSpecs/index.html#Rules">Rules</a> (LimiterRef (MutBor L))
+<a href="../../meter/LimiterSpecs/index.html#lent_rules">lent_rules</a> rules = record {
+  <a href="../../meter/LimiterSpecs/index.html#asked">asked</a> = λ r question answer r&#x27;. <a href="../../meter/LimiterSpecs/index.html#KeepsLoan">KeepsLoan</a> r r&#x27; × <a href="../../meter/LimiterSpecs/index.html#AskedIf">AskedIf</a> rules (<a href="../../meter/LimiterSpecs/index.html#lent_limiter">lent_limiter</a> r) question answer (<a href="../../meter/LimiterSpecs/index.html#lent_limiter">lent_limiter</a> r&#x27;);
+  <a href="../../meter/LimiterSpecs/index.html#noticed">noticed</a> = λ r failure notice_answer r&#x27;.
+      <a href="../../meter/LimiterSpecs/index.html#KeepsLoan">KeepsLoan</a> r r&#x27; × <a href="../../meter/LimiterSpecs/index.html#NoticedIf">NoticedIf</a> rules (<a href="../../meter/LimiterSpecs/index.html#lent_limiter">lent_limiter</a> r) failure notice_answer (<a href="../../meter/LimiterSpecs/index.html#lent_limiter">lent_limiter</a> r&#x27;);
+}
 </code></pre>
 "####]
     pub mod LimiterSpecs {}

@@ -160,8 +160,7 @@ pub mod growth {
     //! writes these steps in each function that grows something.
 
     use crate::proved::meter::{
-        Fuel, FuelError, LimiterError, MemoryError, ResourceLimiter, ResourceLimiterRef,
-        TableError, ValueSize,
+        Fuel, FuelError, LimiterError, MemoryError, ResourceLimiter, TableError, ValueSize,
     };
     use crate::proved::store::memory::MemoryType;
 
@@ -215,27 +214,19 @@ pub mod growth {
         /// ```
         fn out_of_fuel(required_fuel: u64) -> Self;
 
-        /// Notifies the limiter, if any, that a growth which it permitted failed with this error.
-        ///
-        /// # Errors
-        ///
-        /// The limiter's. Without a limiter there is none.
+        /// Notifies the limiter that a growth which it permitted failed with this error.
         ///
         /// # Contract
         ///
         /// ```text
-        /// ensures loan: KeepsLoan limiter.old limiter.new
-        /// ensures noticed: (optional_rules L.rules).noticed
-        ///     (lent_limiter limiter.old) (notice self.now) result (lent_limiter limiter.new)
+        /// ensures: (optional_rules L.rules).noticed (Some limiter.old) (notice self.now) result
+        ///     (Some limiter.new)
         /// ```
         ///
-        /// Definitions: [`KeepsLoan`](crate::specs::meter::LimiterSpecs#KeepsLoan), [`optional_rules`](crate::specs::meter::LimiterSpecs#optional_rules), [`lent_limiter`](crate::specs::meter::LimiterSpecs#lent_limiter).
+        /// Definitions: [`optional_rules`](crate::specs::meter::LimiterSpecs#optional_rules).
         ///
         /// `L` is the type of the limiter, a [`ResourceLimiter`](crate::machine::ResourceLimiter#contract).
-        fn notify<L: ResourceLimiter>(
-            &self,
-            limiter: &mut ResourceLimiterRef<L>,
-        ) -> Result<(), LimiterError>;
+        fn notify<L: ResourceLimiter>(&self, limiter: &mut L) -> Result<(), LimiterError>;
     }
 
     /// # Contract
@@ -253,10 +244,7 @@ pub mod growth {
         }
 
         #[inline]
-        fn notify<L: ResourceLimiter>(
-            &self,
-            limiter: &mut ResourceLimiterRef<L>,
-        ) -> Result<(), LimiterError> {
+        fn notify<L: ResourceLimiter>(&self, limiter: &mut L) -> Result<(), LimiterError> {
             limiter.memory_grow_failed(self)
         }
     }
@@ -276,10 +264,7 @@ pub mod growth {
         }
 
         #[inline]
-        fn notify<L: ResourceLimiter>(
-            &self,
-            limiter: &mut ResourceLimiterRef<L>,
-        ) -> Result<(), LimiterError> {
+        fn notify<L: ResourceLimiter>(&self, limiter: &mut L) -> Result<(), LimiterError> {
             limiter.table_grow_failed(self)
         }
     }
@@ -290,21 +275,16 @@ pub mod growth {
     /// # Contract
     ///
     /// ```text
-    /// ensures loan: KeepsLoan limiter.old limiter.new
-    /// ensures told: (notice_answer : NoticeAnswer)
-    ///     × (optional_rules L.rules).noticed (lent_limiter limiter.old) (E.notice cause) notice_answer
-    ///     (lent_limiter limiter.new) × (result ≡ error_of_failure refusal cause notice_answer)
+    /// ensures: (notice_answer : NoticeAnswer)
+    ///     × (optional_rules L.rules).noticed (Some limiter.old) (E.notice cause) notice_answer
+    ///     (Some limiter.new) × (result ≡ error_of_failure refusal cause notice_answer)
     /// ```
     ///
-    /// Definitions: [`KeepsLoan`](crate::specs::meter::LimiterSpecs#KeepsLoan), [`NoticeAnswer`](crate::specs::meter::LimiterSpecs#NoticeAnswer), [`optional_rules`](crate::specs::meter::LimiterSpecs#optional_rules), [`lent_limiter`](crate::specs::meter::LimiterSpecs#lent_limiter), [`error_of_failure`](crate::specs::meter::AttemptSpecs#error_of_failure).
+    /// Definitions: [`NoticeAnswer`](crate::specs::meter::LimiterSpecs#NoticeAnswer), [`optional_rules`](crate::specs::meter::LimiterSpecs#optional_rules), [`error_of_failure`](crate::specs::meter::AttemptSpecs#error_of_failure).
     ///
     /// `E` is a type with the trait `GrowthError`. `L` is the type of the limiter, a [`ResourceLimiter`](crate::machine::ResourceLimiter#contract).
     #[inline]
-    pub fn tell<L: ResourceLimiter, E: GrowthError>(
-        limiter: &mut ResourceLimiterRef<L>,
-        cause: E,
-        refusal: E,
-    ) -> E {
+    pub fn tell<L: ResourceLimiter, E: GrowthError>(limiter: &mut L, cause: E, refusal: E) -> E {
         let notice_answer = cause.notify(limiter);
         match notice_answer {
             Ok(()) => cause,
@@ -346,19 +326,18 @@ pub mod growth {
     /// # Contract
     ///
     /// ```text
-    /// ensures loan: KeepsLoan limiter.old limiter.new
-    /// ensures permitted: PermitsMinimum (optional_rules L.rules) ty (lent_limiter limiter.old) result
-    ///     (lent_limiter limiter.new)
+    /// ensures permitted: PermitsMinimum (optional_rules L.rules) ty (Some limiter.old) result
+    ///     (Some limiter.new)
     /// ensures sized: IfOk result (λ size. IsSized ty size)
     /// ```
     ///
-    /// Definitions: [`KeepsLoan`](crate::specs::meter::LimiterSpecs#KeepsLoan), [`PermitsMinimum`](crate::specs::store::MemorySpecs#PermitsMinimum), [`optional_rules`](crate::specs::meter::LimiterSpecs#optional_rules), [`lent_limiter`](crate::specs::meter::LimiterSpecs#lent_limiter), [`IsSized`](crate::specs::store::MemorySpecs#IsSized).
+    /// Definitions: [`PermitsMinimum`](crate::specs::store::MemorySpecs#PermitsMinimum), [`optional_rules`](crate::specs::meter::LimiterSpecs#optional_rules), [`IsSized`](crate::specs::store::MemorySpecs#IsSized).
     ///
     /// `L` is the type of the limiter, a [`ResourceLimiter`](crate::machine::ResourceLimiter#contract).
     #[inline]
     pub fn permitted_minimum<L: ResourceLimiter>(
         ty: MemoryType,
-        limiter: &mut ResourceLimiterRef<L>,
+        limiter: &mut L,
     ) -> Result<usize, MemoryError> {
         let Some(size) = ty.minimum_size() else {
             return Err(MemoryError::MinimumSizeOverflow);
@@ -384,9 +363,8 @@ pub mod growth {
     ///
     /// ```text
     /// requires grows: old_size < size
-    /// ensures loan: KeepsLoan limiter.old limiter.new
-    /// ensures permitted: OnOk result ((optional_rules L.rules).asked (lent_limiter limiter.old)
-    ///     (size_question old_size size maximum) (Ok true) (lent_limiter limiter.new))
+    /// ensures permitted: OnOk result ((optional_rules L.rules).asked (Some limiter.old)
+    ///     (size_question old_size size maximum) (Ok true) (Some limiter.new))
     /// ensures room: OnOk result (has_room ≡ true)
     /// ensures paid: OnOk result (Charges fuel.old
     ///     (due fuel.old (λ costs. copy_cost costs (size - old_size) 1)) (Ok tt) fuel.new)
@@ -394,11 +372,11 @@ pub mod growth {
     ///     → IsAsked (growth_of x pages) (size_question old_size size maximum)
     ///     → fits_room x.room (size - old_size) ≡ has_room
     ///     → GrowsMemory (optional_rules L.rules) pages
-    ///     (metered_value x (Some fuel.old) (lent_limiter limiter.old)) (Err error)
-    ///     (metered_value x (Some fuel.new) (lent_limiter limiter.new)))
+    ///     (metered_value x (Some fuel.old) (Some limiter.old)) (Err error)
+    ///     (metered_value x (Some fuel.new) (Some limiter.new)))
     /// ```
     ///
-    /// Definitions: [`KeepsLoan`](crate::specs::meter::LimiterSpecs#KeepsLoan), [`optional_rules`](crate::specs::meter::LimiterSpecs#optional_rules), [`lent_limiter`](crate::specs::meter::LimiterSpecs#lent_limiter), [`size_question`](crate::specs::store::MemorySpecs#size_question), [`Charges`](crate::specs::meter::MeterSpecs#Charges), [`due`](crate::specs::meter::MeterSpecs#due), [`copy_cost`](crate::specs::meter::MeterSpecs#copy_cost), [`MemoryValue`](crate::specs::store::MemorySpecs#MemoryValue), [`IsAsked`](crate::specs::store::GrowthSpecs#IsAsked), [`growth_of`](crate::specs::store::MemorySpecs#growth_of), [`fits_room`](crate::specs::store::BufferSpecs#fits_room), [`GrowsMemory`](crate::specs::store::MemorySpecs#GrowsMemory), [`metered_value`](crate::specs::store::GrowthSpecs#metered_value).
+    /// Definitions: [`optional_rules`](crate::specs::meter::LimiterSpecs#optional_rules), [`size_question`](crate::specs::store::MemorySpecs#size_question), [`Charges`](crate::specs::meter::MeterSpecs#Charges), [`due`](crate::specs::meter::MeterSpecs#due), [`copy_cost`](crate::specs::meter::MeterSpecs#copy_cost), [`MemoryValue`](crate::specs::store::MemorySpecs#MemoryValue), [`IsAsked`](crate::specs::store::GrowthSpecs#IsAsked), [`growth_of`](crate::specs::store::MemorySpecs#growth_of), [`fits_room`](crate::specs::store::BufferSpecs#fits_room), [`GrowsMemory`](crate::specs::store::MemorySpecs#GrowsMemory), [`metered_value`](crate::specs::store::GrowthSpecs#metered_value).
     ///
     /// `L` is the type of the limiter, a [`ResourceLimiter`](crate::machine::ResourceLimiter#contract).
     #[inline]
@@ -408,7 +386,7 @@ pub mod growth {
         maximum: Option<usize>,
         has_room: bool,
         fuel: &mut Fuel,
-        limiter: &mut ResourceLimiterRef<L>,
+        limiter: &mut L,
     ) -> Result<(), MemoryError> {
         assert!(old_size < size, "the size isn't above the old one");
         let answer = limiter.memory_growing(old_size, size, maximum);
@@ -1343,11 +1321,7 @@ mod memory {
             ty: MemoryType,
             limiter: &mut ResourceLimiterRef<L>,
         ) -> Result<Memory<'r>, MemoryError> {
-            let size = permitted_minimum(ty, limiter)?;
-            match Buffer::new(size) {
-                Ok(buffer) => Ok(LinearMemory { buffer, ty }),
-                Err(cause) => Err(tell(limiter, cause, DENIED)),
-            }
+            Memory::new_lending(ty, limiter)
         }
 
         /// A memory of zeros at the front of a borrowed buffer, at the minimum of its type. It takes no
@@ -1372,6 +1346,31 @@ mod memory {
         pub fn new_static<L: ResourceLimiter>(
             ty: MemoryType,
             limiter: &mut ResourceLimiterRef<L>,
+            region: &'r mut [u8],
+        ) -> Result<Memory<'r>, MemoryError> {
+            Memory::new_static_lending(ty, limiter, region)
+        }
+
+        /// As `new_static`, with a limiter that is known again after this call.
+        ///
+        /// # Errors
+        ///
+        /// Those of `new_static`.
+        ///
+        /// # Contract
+        ///
+        /// ```text
+        /// ensures: MakesMemory (optional_rules L.rules) (Lent region.entry.now) ty
+        ///     (Some limiter.old) result (Some limiter.new)
+        /// ```
+        ///
+        /// Definitions: [`MakesMemory`](crate::specs::store::MemorySpecs#MakesMemory), [`optional_rules`](crate::specs::meter::LimiterSpecs#optional_rules), [`Lent`](crate::specs::store::BufferSpecs#Lent).
+        ///
+        /// `L` is the type of the limiter, a [`ResourceLimiter`](crate::machine::ResourceLimiter#contract).
+        #[inline(always)]
+        pub fn new_static_lending<L: ResourceLimiter>(
+            ty: MemoryType,
+            limiter: &mut L,
             region: &'r mut [u8],
         ) -> Result<Memory<'r>, MemoryError> {
             let size = permitted_minimum(ty, limiter)?;
@@ -1402,10 +1401,11 @@ mod memory {
             ty: MemoryType,
             limiter: &mut L,
         ) -> Result<Memory<'r>, MemoryError> {
-            let mut lent = ResourceLimiterRef::from(limiter);
-            let made = Memory::new(ty, &mut lent);
-            let _limiter = lent.into_limiter();
-            made
+            let size = permitted_minimum(ty, limiter)?;
+            match Buffer::new(size) {
+                Ok(buffer) => Ok(LinearMemory { buffer, ty }),
+                Err(cause) => Err(tell(limiter, cause, DENIED)),
+            }
         }
     }
 
@@ -1569,21 +1569,7 @@ mod memory {
             fuel: &mut Fuel,
             limiter: &mut ResourceLimiterRef<L>,
         ) -> Result<u64, MemoryError> {
-            let old_pages = self.size();
-            if additional == 0 {
-                return Ok(old_pages);
-            }
-            let old_size = self.buffer.len();
-            let Some(size) = self.ty.grown_size(old_size, additional) else {
-                return Err(MemoryError::OutOfBoundsGrowth);
-            };
-            let maximum = self.ty.maximum_size();
-            let has_room = self.buffer.has_room(size);
-            decide_growth(old_size, size, maximum, has_room, fuel, limiter)?;
-            if let Err(cause) = self.buffer.grow(size) {
-                return Err(tell(limiter, cause, DENIED));
-            }
-            Ok(old_pages)
+            self.grow_lending(additional, fuel, limiter)
         }
 
         /// As `grow_metered`, with a limiter that is known again after this call.
@@ -1610,10 +1596,21 @@ mod memory {
             fuel: &mut Fuel,
             limiter: &mut L,
         ) -> Result<u64, MemoryError> {
-            let mut lent = ResourceLimiterRef::from(limiter);
-            let grown = self.grow_metered(additional, fuel, &mut lent);
-            let _limiter = lent.into_limiter();
-            grown
+            let old_pages = self.size();
+            if additional == 0 {
+                return Ok(old_pages);
+            }
+            let old_size = self.buffer.len();
+            let Some(size) = self.ty.grown_size(old_size, additional) else {
+                return Err(MemoryError::OutOfBoundsGrowth);
+            };
+            let maximum = self.ty.maximum_size();
+            let has_room = self.buffer.has_room(size);
+            decide_growth(old_size, size, maximum, has_room, fuel, limiter)?;
+            if let Err(cause) = self.buffer.grow(size) {
+                return Err(tell(limiter, cause, DENIED));
+            }
+            Ok(old_pages)
         }
 
         /// Fills a buffer with the bytes from an offset on.
@@ -2703,20 +2700,7 @@ mod table {
             init: TypedRawRef,
             limiter: &mut ResourceLimiterRef<L>,
         ) -> Result<Self, TableError> {
-            ty.ensure_element_type_matches(init.ty)?;
-            let Ok(size) = usize::try_from(ty.minimum()) else {
-                return Err(TableError::MinimumSizeOverflow);
-            };
-            let answer = limiter.table_growing(0, size, ty.maximum_size());
-            permission(answer, DENIED, DENIED)?;
-            match Vec::filled(init.raw, size) {
-                Ok(elements) => Ok(Table {
-                    ty,
-                    elements,
-                    reserved: 0,
-                }),
-                Err(_) => Err(tell(limiter, TableError::OutOfSystemMemory, DENIED)),
-            }
+            Table::new_lending(ty, init, limiter)
         }
 
         /// As `new`, with a limiter that is known again after this call.
@@ -2741,10 +2725,20 @@ mod table {
             init: TypedRawRef,
             limiter: &mut L,
         ) -> Result<Self, TableError> {
-            let mut lent = ResourceLimiterRef::from(limiter);
-            let made = Table::new(ty, init, &mut lent);
-            let _limiter = lent.into_limiter();
-            made
+            ty.ensure_element_type_matches(init.ty)?;
+            let Ok(size) = usize::try_from(ty.minimum()) else {
+                return Err(TableError::MinimumSizeOverflow);
+            };
+            let answer = limiter.table_growing(0, size, ty.maximum_size());
+            permission(answer, DENIED, DENIED)?;
+            match Vec::filled(init.raw, size) {
+                Ok(elements) => Ok(Table {
+                    ty,
+                    elements,
+                    reserved: 0,
+                }),
+                Err(_) => Err(tell(limiter, TableError::OutOfSystemMemory, DENIED)),
+            }
         }
 
         /// Reserves memory for so many elements in all, those that are there included: until it has
@@ -2874,8 +2868,7 @@ mod table {
             fuel: &mut Fuel,
             limiter: &mut ResourceLimiterRef<L>,
         ) -> Result<u64, TableError> {
-            self.ty.ensure_element_type_matches(init.ty)?;
-            self.grow_raw_metered(delta, init.raw, fuel, limiter)
+            self.grow_lending(delta, init, fuel, limiter)
         }
 
         /// As `grow_metered`, with a limiter that is known again after this call.
@@ -2903,10 +2896,8 @@ mod table {
             fuel: &mut Fuel,
             limiter: &mut L,
         ) -> Result<u64, TableError> {
-            let mut lent = ResourceLimiterRef::from(limiter);
-            let grown = self.grow_metered(delta, init, fuel, &mut lent);
-            let _limiter = lent.into_limiter();
-            grown
+            self.ty.ensure_element_type_matches(init.ty)?;
+            self.grow_raw_metered(delta, init.raw, fuel, limiter)
         }
 
         /// Grows by `delta` elements, each the given reference, and returns the old size. A growth by 0
@@ -2952,13 +2943,12 @@ mod table {
         /// # Contract
         ///
         /// ```text
-        /// ensures loan: KeepsLoan limiter.old limiter.new
-        /// ensures grown: GrowsTableRaw (optional_rules L.rules) delta init
-        ///     (metered_value self.old (Some fuel.old) (lent_limiter limiter.old)) result
-        ///     (metered_value self.new (Some fuel.new) (lent_limiter limiter.new))
+        /// ensures: GrowsTableRaw (optional_rules L.rules) delta init
+        ///     (metered_value self.old (Some fuel.old) (Some limiter.old)) result
+        ///     (metered_value self.new (Some fuel.new) (Some limiter.new))
         /// ```
         ///
-        /// Definitions: [`KeepsLoan`](crate::specs::meter::LimiterSpecs#KeepsLoan), [`GrowsTableRaw`](crate::specs::store::TableSpecs#GrowsTableRaw), [`optional_rules`](crate::specs::meter::LimiterSpecs#optional_rules), [`metered_value`](crate::specs::store::GrowthSpecs#metered_value), [`lent_limiter`](crate::specs::meter::LimiterSpecs#lent_limiter).
+        /// Definitions: [`GrowsTableRaw`](crate::specs::store::TableSpecs#GrowsTableRaw), [`optional_rules`](crate::specs::meter::LimiterSpecs#optional_rules), [`metered_value`](crate::specs::store::GrowthSpecs#metered_value).
         ///
         /// `L` is the type of the limiter, a [`ResourceLimiter`](crate::machine::ResourceLimiter#contract).
         #[inline(always)]
@@ -2967,7 +2957,7 @@ mod table {
             delta: u64,
             init: RawRef,
             fuel: &mut Fuel,
-            limiter: &mut ResourceLimiterRef<L>,
+            limiter: &mut L,
         ) -> Result<u64, TableError> {
             if delta == 0 {
                 return Ok(self.size());
@@ -2982,13 +2972,12 @@ mod table {
         ///
         /// ```text
         /// requires asked: delta ≢ 0
-        /// ensures loan: KeepsLoan limiter.old limiter.new
         /// ensures grown: GrowsTableRaw (optional_rules L.rules) delta init
-        ///     (metered_value self.old (Some fuel.old) (lent_limiter limiter.old)) result
-        ///     (metered_value self.new (Some fuel.new) (lent_limiter limiter.new))
+        ///     (metered_value self.old (Some fuel.old) (Some limiter.old)) result
+        ///     (metered_value self.new (Some fuel.new) (Some limiter.new))
         /// ```
         ///
-        /// Definitions: [`KeepsLoan`](crate::specs::meter::LimiterSpecs#KeepsLoan), [`GrowsTableRaw`](crate::specs::store::TableSpecs#GrowsTableRaw), [`optional_rules`](crate::specs::meter::LimiterSpecs#optional_rules), [`metered_value`](crate::specs::store::GrowthSpecs#metered_value), [`lent_limiter`](crate::specs::meter::LimiterSpecs#lent_limiter).
+        /// Definitions: [`GrowsTableRaw`](crate::specs::store::TableSpecs#GrowsTableRaw), [`optional_rules`](crate::specs::meter::LimiterSpecs#optional_rules), [`metered_value`](crate::specs::store::GrowthSpecs#metered_value).
         ///
         /// `L` is the type of the limiter, a [`ResourceLimiter`](crate::machine::ResourceLimiter#contract).
         #[inline]
@@ -2997,7 +2986,7 @@ mod table {
             delta: u64,
             init: RawRef,
             fuel: &mut Fuel,
-            limiter: &mut ResourceLimiterRef<L>,
+            limiter: &mut L,
         ) -> Result<u64, TableError> {
             let size = self.elements.len();
             let Some(desired) = self.ty.grown_size(size as u64, delta) else {

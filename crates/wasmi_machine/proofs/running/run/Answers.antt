@@ -1,18 +1,9 @@
-use Rattle.wasmi_machine.proofs.Common.{optional_rules, loan_kept}
-use Rattle.std.proofs.Common.{◌+◌, ◌∙◌, ap, arith}
-use Rattle.wasmi_machine.proofs.StoreLemmas.{run_more}
+use Rattle.wasmi_machine.proofs.RevealingLemmas.{run_lent}
 use Rattle.wasmi_machine.proofs.running.run.Goals as goal
 
--- the call is answered after those before it
-pub loop-call-preserved : goal.loop-call-preserved
-loop-call-preserved g c =
-    record {
-      ran = rw c.push_reserved.ensures.items
-          (run_more (optional_rules g.L.ResourceLimiter.rules) _ _ c.call-item.result _ _ _ _ _ c.loop-call-test.true
-          c.call-item.is c.loop-call.invariant.ran c.step-reply.ensures.step);
-      loan = loan_kept c.args.limiter.now c.loop-call.limiter c.step-reply.new.limiter c.loop-call.invariant.loan
-          c.step-reply.ensures.loan;
-      valid = c.step-reply.ensures.valid;
-      count = c.push_reserved.ensures.len ∙ ap (λ n. n + 1) c.loop-call.invariant.count;
-      room = omega (arith, c.push_reserved.ensures.capacity);
-    }
+pub returns : goal.returns
+returns g c =
+    let ran = c.run_lending.ensures in
+    let seen = run_lent g.L.ResourceLimiter.rules c.args.limiter.now c.run_lending.new.limiter c.args.machine.now
+    c.run_lending.new.machine (λ replies. replies.items) c.args.calls.now c.run_lending.result ran.run ran.err in
+    record { loan = seen.0; run = seen.1; err = ran.err; valid = ran.valid }

@@ -1,19 +1,21 @@
-use Rattle.wasmi_machine.proofs.Common.{length-append, optional_rules, loan_kept}
-use Rattle.wasmi_machine.proofs.StoreLemmas.{run_more}
+use Rattle.std.proofs.Common.{◌≡◌}
+use Rattle.wasmi_machine.proofs.RevealingLemmas.{run_lent}
+use Rattle.std.proofs.lemmas.Result.{on_err_weaker}
 use Rattle.wasmi_machine.proofs.running.run_into.Goals as goal
 
--- the call is answered after those before it
-pub loop-call-preserved : goal.loop-call-preserved
-loop-call-preserved g c =
-    let pushed = c.push.ensures.added in
+pub returns : goal.returns
+returns g c =
+    let ran = c.run_into_lending.ensures in
+    let new = c.run_into_lending.new in
+    let seen = run_lent g.L.ResourceLimiter.rules c.args.limiter.now new.limiter c.args.machine.now new.machine
+    (λ _. new.replies.items) c.args.calls.now c.run_into_lending.result ran.run
+    (on_err_weaker {Q = (new.machine ≡ c.args.machine.now) × (new.limiter ≡ c.args.limiter.now)} _
+    (λ same. (same.0, same.1)) ran.err) in
     record {
-      ran = rw pushed
-          (run_more (optional_rules g.L.ResourceLimiter.rules) _ _ c.call-item.result _ _ _ _ _ c.loop-call-test.true
-          c.call-item.is c.loop-call.invariant.ran c.step-reply.ensures.step);
-      loan = loan_kept c.args.limiter.now c.loop-call.limiter c.step-reply.new.limiter c.loop-call.invariant.loan
-          c.step-reply.ensures.loan;
-      valid = c.step-reply.ensures.valid;
-      count = rw (pushed, length-append, c.loop-call.invariant.count);
-      room = rw pushed c.loop-call.invariant.room;
-      same = rw pushed c.loop-call.invariant.same;
+      loan = seen.0;
+      run = seen.1;
+      accepted = ran.accepted;
+      err = ran.err;
+      capacity = ran.capacity;
+      valid = ran.valid;
     }

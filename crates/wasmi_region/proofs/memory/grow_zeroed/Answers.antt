@@ -1,5 +1,5 @@
-use Rattle.std.proofs.Common.{◌∙◌, ap, Ok, false, refl, sym, arith, length, drop}
-use Rattle.wasmi_region.proofs.Common.{cond-false, err_from_is_err_and, optional_rules, growing, grows_none, grows_unasked, grows_met, memory_growth, growth_permitted}
+use Rattle.std.proofs.Common.{◌∙◌, Some, ap, Ok, false, refl, sym, arith, length, drop}
+use Rattle.wasmi_region.proofs.Common.{cond-false, err_from_is_err_and, optional_rules, lent_limiter, grows_lent, growing, grows_none, grows_unasked, grows_met, memory_growth, growth_permitted}
 use Rattle.wasmi_region.specs.Memory.{memory_in}
 use Rattle.wasmi_region.proofs.MemoryLemmas.{zeroed_none, paged, bounds, asked_in, room_is, grown}
 use Rattle.wasmi_region.proofs.memory.grow_zeroed.Goals as goal
@@ -19,11 +19,25 @@ returns-in_default-clause-grown g c = rw (zeroed_none c.args.region.now c.args.s
 pub returns-in_err-decide_growth-clause-grown : goal.returns-in_err-decide_growth-clause-grown
 returns-in_err-decide_growth-clause-grown g c =
     let p = err_from_is_err_and c.from_residual.result c.from_residual.ensures.1 in
-    rw (p.1, p.2, zeroed_none c.args.region.now c.args.size.now) (
-    c.in_err-decide_growth.ensures.refused _ _ (omega (arith, c.if-additional-eq0.false))
+    let x = memory_in c.args.ty c.args.region.now c.args.size.now in
+    let grown = c.in_err-decide_growth.ensures.refused x c.args.additional (omega (arith, c.if-additional-eq0.false))
     (asked_in c.args.ty _ _ c.requires.within _ c.in-Some.ensures.size c.maximum_size-maximum.ensures)
-    (room_is c.args.ty _ _ c.requires.within _ c.in-Some.ensures.size _ refl)
-    )
+    (room_is c.args.ty _ _ c.requires.within _ c.in-Some.ensures.size _ refl) in
+    let seen = grows_lent g.L.ResourceLimiter.rules c.args.limiter.now c.decide_growth.new.limiter x x
+    (Some c.args.fuel.now) (Some c.decide_growth.new.fuel) (memory_growth c.args.additional x) _ _ grown.1 in
+    rw (p.1, p.2, zeroed_none c.args.region.now c.args.size.now) (grown.0, seen.1)
+
+pub returns-in_err-decide_growth-clause-loan : goal.returns-in_err-decide_growth-clause-loan
+returns-in_err-decide_growth-clause-loan g c =
+    let x = memory_in c.args.ty c.args.region.now c.args.size.now in
+    let grown = c.in_err-decide_growth.ensures.refused x c.args.additional (omega (arith, c.if-additional-eq0.false))
+    (asked_in c.args.ty _ _ c.requires.within _ c.in-Some.ensures.size c.maximum_size-maximum.ensures)
+    (room_is c.args.ty _ _ c.requires.within _ c.in-Some.ensures.size _ refl) in
+    (grows_lent g.L.ResourceLimiter.rules c.args.limiter.now c.decide_growth.new.limiter x x
+    (Some c.args.fuel.now) (Some c.decide_growth.new.fuel) (memory_growth c.args.additional x) _ _ grown.1).0
+
+pub returns-clause-loan : goal.returns-clause-loan
+returns-clause-loan g c = c.in_ok-decide_growth.ensures.permitted.0
 
 pub returns-clause-grown : goal.returns-clause-grown
 returns-clause-grown g c =
@@ -33,7 +47,8 @@ returns-clause-grown g c =
     let fits = room_is c.args.ty _ _ c.requires.within c.args.additional found _ refl in
     grows_met
     (growth_permitted (optional_rules g.L.ResourceLimiter.rules) x c.args.fuel.now c.args.additional
-    c.if-additional-eq0.false asked refl c.in_ok-decide_growth.ensures.permitted)
+    {p = lent_limiter c.decide_growth.new.limiter} c.if-additional-eq0.false asked refl
+    c.in_ok-decide_growth.ensures.permitted.1)
     (fits ∙ c.in_ok-decide_growth.ensures.room) c.decide_growth.new.fuel c.in_ok-decide_growth.ensures.paid _
     (grown c.args.ty _ _ c.requires.within _ found _ refl) _
     (c.pages_in-old_pages.ensures ∙ sym (paged c.args.ty _ _ c.requires.within c.args.additional))

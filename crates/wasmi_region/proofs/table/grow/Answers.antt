@@ -39,21 +39,27 @@ pub returns-then-not-allows_size-clause-grown : goal.returns-then-not-allows_siz
 returns-then-not-allows_size-clause-grown g c =
     let is = table.permits (begun g (goal.at.returns-then-not-allows_size-clause-grown g c).Else-delta-eq0)
     c.in-Some.ensures c.maximum_size.ensures c.in_ok-permission.ensures c.table_growing-answer.ensures.asked in
-    grows_late is (sym c.if-not-allows_size.ensures) _ _ c.tell.ensures.told
+    let told = c.tell.ensures in
+    grows_late is (sym c.if-not-allows_size.ensures) _
+    (lent_limiter c.tell.new.limiter) (told.0, told.1.1, told.2)
 
 pub returns-in-Err-clause-grown : goal.returns-in-Err-clause-grown
 returns-in-Err-clause-grown g c =
     let is = table.permits (begun g (goal.at.returns-in-Err-clause-grown g c).Else-delta-eq0) c.in-Some.ensures
     c.maximum_size.ensures c.in_ok-permission.ensures c.table_growing-answer.ensures.asked in
-    grows_unpaid is (sym c.if-not-allows_size.ensures) _ _ c.in-Err.ensures _ _ c.tell-in-Err.ensures.told
+    let told = c.tell-in-Err.ensures in
+    grows_unpaid is (sym c.if-not-allows_size.ensures) _ _ c.in-Err.ensures _
+    (lent_limiter c.tell-in-Err.new.limiter) (told.0, told.1.1, told.2)
 
 pub returns-then-region-desired-clause-grown : goal.returns-then-region-desired-clause-grown
 returns-then-region-desired-clause-grown g c =
     let t = begun g (goal.at.returns-then-region-desired-clause-grown g c).Else-delta-eq0 in
     let is = table.permits t c.in-Some.ensures c.maximum_size.ensures c.in_ok-permission.ensures
     c.table_growing-answer.ensures.asked in
+    let told = c.tell-then-region-desired.ensures in
     grows_refused is (sym c.if-not-allows_size.ensures) _ c.in_default-charge.ensures _
-    (table.is_short t c.in-Some.ensures.1 c.if-region-desired.true) _ refl _ _ c.tell-then-region-desired.ensures.told
+    (table.is_short t c.in-Some.ensures.1 c.if-region-desired.true) _ refl _
+    (lent_limiter c.tell-then-region-desired.new.limiter) (told.0, told.1.1, told.2)
 
 pub returns-clause-grown : goal.returns-clause-grown
 returns-clause-grown g c =
@@ -64,14 +70,14 @@ returns-clause-grown g c =
     (table.grown t _ c.in-Some.ensures.1 _ c.fill_range.ensures.filled) _ (table.sized t)
 
 pub returns-then-not-allows_size-clause-loan : goal.returns-then-not-allows_size-clause-loan
-returns-then-not-allows_size-clause-loan g c = loan_kept _ _ _ c.table_growing-answer.ensures.loan c.tell.ensures.loan
+returns-then-not-allows_size-clause-loan g c = loan_kept _ _ _ c.table_growing-answer.ensures.loan c.tell.ensures.1.0
 
 pub returns-in-Err-clause-loan : goal.returns-in-Err-clause-loan
-returns-in-Err-clause-loan g c = loan_kept _ _ _ c.table_growing-answer.ensures.loan c.tell-in-Err.ensures.loan
+returns-in-Err-clause-loan g c = loan_kept _ _ _ c.table_growing-answer.ensures.loan c.tell-in-Err.ensures.1.0
 
 pub returns-then-region-desired-clause-loan : goal.returns-then-region-desired-clause-loan
 returns-then-region-desired-clause-loan g c =
-    loan_kept _ _ _ c.table_growing-answer.ensures.loan c.tell-then-region-desired.ensures.loan
+    loan_kept _ _ _ c.table_growing-answer.ensures.loan c.tell-then-region-desired.ensures.1.0
 
 pub returns-clause-within : goal.returns-clause-within
 returns-clause-within g c = omega (arith, c.if-region-desired.false, c.fill_range.ensures.len)

@@ -1,6 +1,6 @@
-use Rattle.std.proofs.Common.{◌∙◌, arith}
+use Rattle.std.proofs.Common.{◌∙◌, Some, arith}
 use Rattle.wasmi_store.proofs.Common.{err_from_is_err_and, optional_rules}
-use Rattle.wasmi_store.proofs.GrowthLemmas.{loan_kept, growing, grows_denied, grows_late, grows_unpaid}
+use Rattle.wasmi_store.proofs.GrowthLemmas.{growing, grows_denied, grows_late, grows_unpaid}
 use Rattle.wasmi_store.proofs.MemoryLemmas.{growth_permitted}
 use Rattle.wasmi_store.specs.Memory.{memory_growth}
 use Rattle.wasmi_store.proofs.growth.decide_growth.Goals as goal
@@ -17,18 +17,14 @@ returns-in_err-permission-clause-refused g c =
 pub returns-then-not-has_room-clause-refused : goal.returns-then-not-has_room-clause-refused
 returns-then-not-has_room-clause-refused g c = λ x pages some asked fits.
     let permits = growth_permitted (optional_rules g.L.ResourceLimiter.rules) x c.args.fuel.now pages
-    (λ none. omega (arith, some, none)) asked c.in_ok-permission.ensures c.memory_growing-answer.ensures.asked in
-    grows_late permits (fits ∙ c.if-not-has_room.true) _ _ c.tell.ensures.told
+    {p = Some c.memory_growing-answer.new.self} (λ none. omega (arith, some, none)) asked c.in_ok-permission.ensures
+    c.memory_growing-answer.ensures.asked in
+    grows_late permits (fits ∙ c.if-not-has_room.true) _ _ c.tell.ensures
 
 pub returns-in-Err-clause-refused : goal.returns-in-Err-clause-refused
 returns-in-Err-clause-refused g c = λ x pages some asked fits.
     let permits = growth_permitted (optional_rules g.L.ResourceLimiter.rules) x c.args.fuel.now pages
-    (λ none. omega (arith, some, none)) asked c.in_ok-permission.ensures c.memory_growing-answer.ensures.asked in
+    {p = Some c.memory_growing-answer.new.self} (λ none. omega (arith, some, none)) asked c.in_ok-permission.ensures
+    c.memory_growing-answer.ensures.asked in
     grows_unpaid permits
-    (fits ∙ c.if-not-has_room.false) c.charge-paid.new.fuel _ c.in-Err.ensures _ _ c.tell-in-Err.ensures.told
-
-pub returns-then-not-has_room-clause-loan : goal.returns-then-not-has_room-clause-loan
-returns-then-not-has_room-clause-loan g c = loan_kept _ _ _ c.memory_growing-answer.ensures.loan c.tell.ensures.loan
-
-pub returns-in-Err-clause-loan : goal.returns-in-Err-clause-loan
-returns-in-Err-clause-loan g c = loan_kept _ _ _ c.memory_growing-answer.ensures.loan c.tell-in-Err.ensures.loan
+    (fits ∙ c.if-not-has_room.false) c.charge-paid.new.fuel _ c.in-Err.ensures _ _ c.tell-in-Err.ensures

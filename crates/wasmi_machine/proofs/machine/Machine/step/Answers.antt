@@ -1,14 +1,8 @@
-use Rattle.wasmi_machine.proofs.Common.{optional_rules, lent_limiter, world}
-use Rattle.wasmi_machine.proofs.ValidityLemmas.{answer_is_valid}
+use Rattle.wasmi_machine.proofs.RevealingLemmas.{step_lent}
 use Rattle.wasmi_machine.proofs.machine.Machine.step.Goals as goal
 
-pub invariant_of-self : goal.invariant_of-self
-invariant_of-self g c = answer_is_valid (optional_rules g.L.ResourceLimiter.rules) c.args.call.now
-    (world c.self.inside.store (lent_limiter c.args.limiter.now)) c.step.result
-    (world c.step.new.self (lent_limiter c.step.new.limiter)) c.tell_valid.ensures c.self.invariant c.step.ensures.step
-
-pub returns-clause-step : goal.returns-clause-step
-returns-clause-step g c = rw (← c.self.view_is) c.step.ensures.step
-
-pub returns-clause-valid : goal.returns-clause-valid
-returns-clause-valid g c = invariant_of-self g c
+pub returns : goal.returns
+returns g c =
+    let seen = step_lent g.L.ResourceLimiter.rules c.args.limiter.now c.step_lending.new.limiter c.args.self.now
+    c.step_lending.new.self c.args.call.now c.step_lending.result c.step_lending.ensures.step in
+    record { loan = seen.0; step = seen.1; valid = c.step_lending.ensures.valid }

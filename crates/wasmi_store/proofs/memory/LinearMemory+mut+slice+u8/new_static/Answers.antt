@@ -1,19 +1,12 @@
-use Rattle.wasmi_store.proofs.Common.{err_from_is_err_and, optional_rules}
+use Rattle.wasmi_store.proofs.Common.{new_memory}
 use Rattle.wasmi_store.specs.Buffer.{Lent}
-use Rattle.wasmi_store.proofs.MemoryLemmas.{makes_short, sized_zeros}
+use Rattle.wasmi_store.specs.Memory.{creation_of}
+use Rattle.wasmi_store.proofs.GrowthLemmas.{makes_lent}
 use Rattle.wasmi_store.proofs.memory.LinearMemory+mut+slice+u8.new_static.Goals as goal
 
-pub returns-in_err-size-clause-made : goal.returns-in_err-size-clause-made
-returns-in_err-size-clause-made g c =
-    let p = err_from_is_err_and c.from_residual.result c.from_residual.ensures.1 in
-    rw (p.1, p.2) (c.in_err-size.ensures.permitted (Lent c.args.region.now))
-
-pub returns-in-Err-clause-made : goal.returns-in-Err-clause-made
-returns-in-Err-clause-made g c =
-    let e = c.in-Err.ensures.err in
-    makes_short (optional_rules g.L.ResourceLimiter.rules)
-    (Lent c.args.region.now) c.args.ty _ _ c.in_ok-size.size c.in_ok-size.ensures.permitted e.0 _ _
-    (rw e.1 at c.tell.ensures.told)
-
-pub invariant_of-result : goal.invariant_of-result
-invariant_of-result g c = sized_zeros _ (Lent c.args.region.now) _ _ c.in-Ok.ensures.ok.1 c.in_ok-size.ensures.sized
+pub returns : goal.returns
+returns g c =
+    let room = Lent c.args.region.now in
+    let seen = makes_lent g.L.ResourceLimiter.rules c.args.limiter.now c.new_static_lending.new.limiter
+    (creation_of room c.args.ty) (new_memory room c.args.ty) _ c.new_static_lending.ensures in
+    record { loan = seen.0; made = seen.1 }

@@ -1,13 +1,12 @@
-use Rattle.std.proofs.Common.{◌≡◌, ◌≤◌, length, take}
-use Rattle.wasmi_machine.proofs.Common.{optional_rules, lent_limiter, KeepsLoan, IsValid, world, IsRunOf}
-use Rattle.wasmi_machine.proofs.running.run_into.Given as goal
+use Rattle.std.proofs.Common.{Some, ◌≡◌, ◌≤◌, length, take}
+use Rattle.wasmi_machine.proofs.Common.{optional_rules, IsValid, world, IsRunOf}
+use Rattle.wasmi_machine.proofs.running.run_into_lending.Given as goal
 
 -- the calls so far are a run, and there is room for the replies to the rest
 abbrev pub invariant-loop-call : goal.invariant-loop-call
 invariant-loop-call g l = record {
   ran : IsRunOf (optional_rules g.L.ResourceLimiter.rules) (take l.call-index l.calls)
-      (world l.fn.machine (lent_limiter l.fn.limiter)) l.replies.items (world l.machine (lent_limiter l.limiter));
-  loan : KeepsLoan l.fn.limiter l.limiter;
+      (world l.fn.machine (Some l.fn.limiter)) l.replies.items (world l.machine (Some l.limiter));
   valid : IsValid l.machine;
   count : length l.replies.items ≡ l.call-index;
   room : length l.calls ≤ l.replies.capacity;
