@@ -54,16 +54,6 @@ def of(enum):
     return made_of
 
 
-def plain(enum, kind):
-    """The definition of which errors of an enum are plain: a line for each of these, and one for all others."""
-    def made(its):
-        name = f"IsPlain{enum}"
-        lines = [f"{name} {it.pattern()} = Unit {{0}}\n" for it in its if it.enum == enum and it.row.get("plain")]
-        comment = f"the error of a {kind} is found before the limiter is asked and before anything is charged"
-        return definition(comment, name, f"{enum} → Type 0", [*lines, f"{name} error = ⊥\n"])
-    return made
-
-
 def text(it):
     """The text of an error, which isn't broken between its words."""
     return f'codes "{it.row["text"]}"'.replace(" ", FIXED) + " ++ decimal required" * it.has_fuel
@@ -119,7 +109,9 @@ FILES = {
         of("MemoryError")("the text of an error of a memory", "memory_error_text", "MemoryError → List ℕ", text),
         of("TableError")("the text of an error of a table", "table_error_text", "TableError → List ℕ", text),
     )],
-    "crates/wasmi_laws/specs/Runs.antt": [tuple(plain(enum, kind) for enum, kind in KINDS.items())],
+    "crates/wasmi_laws/specs/Runs.antt": [tuple(
+        of(enum)(f"the error of a {kind} is found before the limiter is asked and before anything is charged", f"IsPlain{enum}", f"{enum} → Type 0",
+                 lambda it: "Unit {0}" if it.row.get("plain") else "⊥") for enum, kind in KINDS.items())],
     "crates/wasmi_c/specs/Status.antt": [tuple(
         of(enum)(f"the status of a refused call on a {kind}", f"{kind}_status", f"{enum} → ℕ", lambda it: f"status.{it.row['status']}")
         for enum, kind in KINDS.items())],

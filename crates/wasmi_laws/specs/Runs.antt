@@ -27,26 +27,51 @@ pub record IsRunInTwo {S : Type 0} (rules : Rules S) (first rest : List Call) (u
 -- What tools/generate writes begins.
 -- the error of a memory is found before the limiter is asked and before anything is charged
 abbrev pub IsPlainMemoryError : MemoryError → Type 0
+IsPlainMemoryError memory.OutOfSystemMemory = ⊥
+IsPlainMemoryError memory.OutOfBoundsGrowth = ⊥
 IsPlainMemoryError memory.OutOfBoundsAccess = Unit {0}
-IsPlainMemoryError error = ⊥
+IsPlainMemoryError memory.InvalidMemoryType = ⊥
+IsPlainMemoryError memory.InvalidStaticBufferSize = ⊥
+IsPlainMemoryError memory.ResourceLimiterDeniedAllocation = ⊥
+IsPlainMemoryError memory.MinimumSizeOverflow = ⊥
+IsPlainMemoryError memory.MaximumSizeOverflow = ⊥
+IsPlainMemoryError (memory.OutOfFuel required) = ⊥
 
 -- the error of a table is found before the limiter is asked and before anything is charged
 abbrev pub IsPlainTableError : TableError → Type 0
+IsPlainTableError table.OutOfSystemMemory = ⊥
+IsPlainTableError table.MinimumSizeOverflow = ⊥
+IsPlainTableError table.MaximumSizeOverflow = ⊥
+IsPlainTableError table.ResourceLimiterDeniedAllocation = ⊥
+IsPlainTableError table.GrowOutOfBounds = ⊥
 IsPlainTableError table.InitOutOfBounds = Unit {0}
 IsPlainTableError table.FillOutOfBounds = Unit {0}
 IsPlainTableError table.SetOutOfBounds = Unit {0}
 IsPlainTableError table.CopyOutOfBounds = Unit {0}
 IsPlainTableError table.ElementTypeMismatch = Unit {0}
-IsPlainTableError error = ⊥
+IsPlainTableError (table.OutOfFuel required) = ⊥
 
 -- What tools/generate writes ends.
 
 -- The reply is a refusal that is found before the limiter is asked and before anything is charged: a trap, an index
--- that names nothing, an access past the end, another type, metering that is off, or no place for a new slot.
+-- that names nothing, an access past the end, another type, metering that is off, or no place for a new slot. Each reply
+-- has a line.
 abbrev pub IsPlainRefusal : Reply → Type 0
+IsPlainRefusal reply.Done = ⊥
+IsPlainRefusal (reply.Made index) = ⊥
+IsPlainRefusal (reply.Value value) = ⊥
+IsPlainRefusal (reply.Number number) = ⊥
+IsPlainRefusal (reply.Bytes bytes) = ⊥
+IsPlainRefusal (reply.Reference value) = ⊥
 IsPlainRefusal (reply.Memory error) = IsPlainMemoryError error
 IsPlainRefusal (reply.Table error) = IsPlainTableError error
-IsPlainRefusal reply = IsRefusal reply
+IsPlainRefusal (reply.Fuel error) = Unit {0}
+IsPlainRefusal (reply.Global error) = Unit {0}
+IsPlainRefusal (reply.Segment error) = Unit {0}
+IsPlainRefusal (reply.Trap code) = Unit {0}
+IsPlainRefusal reply.NoSuch = Unit {0}
+IsPlainRefusal reply.NoRegion = Unit {0}
+IsPlainRefusal reply.NoRoom = Unit {0}
 
 module _ {S : Type 0} (rules : Rules S) where
   -- a run of turns is, at each place, a run of those before it, and a run of the others from where these end

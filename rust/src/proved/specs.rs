@@ -5483,26 +5483,51 @@ pub record <b id="IsRunInTwo">IsRunInTwo</b> {S : Type 0} (rules : <a href="../.
 -- What tools/generate writes begins.
 -- the error of a memory is found before the limiter is asked and before anything is charged
 abbrev pub <b id="IsPlainMemoryError">IsPlainMemoryError</b> : MemoryError → Type 0
+<a href="../../laws/RunsSpecs/index.html#IsPlainMemoryError">IsPlainMemoryError</a> memory.OutOfSystemMemory = ⊥
+<a href="../../laws/RunsSpecs/index.html#IsPlainMemoryError">IsPlainMemoryError</a> memory.OutOfBoundsGrowth = ⊥
 <a href="../../laws/RunsSpecs/index.html#IsPlainMemoryError">IsPlainMemoryError</a> memory.OutOfBoundsAccess = Unit {0}
-<a href="../../laws/RunsSpecs/index.html#IsPlainMemoryError">IsPlainMemoryError</a> error = ⊥
+<a href="../../laws/RunsSpecs/index.html#IsPlainMemoryError">IsPlainMemoryError</a> memory.InvalidMemoryType = ⊥
+<a href="../../laws/RunsSpecs/index.html#IsPlainMemoryError">IsPlainMemoryError</a> memory.InvalidStaticBufferSize = ⊥
+<a href="../../laws/RunsSpecs/index.html#IsPlainMemoryError">IsPlainMemoryError</a> memory.ResourceLimiterDeniedAllocation = ⊥
+<a href="../../laws/RunsSpecs/index.html#IsPlainMemoryError">IsPlainMemoryError</a> memory.MinimumSizeOverflow = ⊥
+<a href="../../laws/RunsSpecs/index.html#IsPlainMemoryError">IsPlainMemoryError</a> memory.MaximumSizeOverflow = ⊥
+<a href="../../laws/RunsSpecs/index.html#IsPlainMemoryError">IsPlainMemoryError</a> (memory.OutOfFuel required) = ⊥
 
 -- the error of a table is found before the limiter is asked and before anything is charged
 abbrev pub <b id="IsPlainTableError">IsPlainTableError</b> : TableError → Type 0
+<a href="../../laws/RunsSpecs/index.html#IsPlainTableError">IsPlainTableError</a> table.OutOfSystemMemory = ⊥
+<a href="../../laws/RunsSpecs/index.html#IsPlainTableError">IsPlainTableError</a> table.MinimumSizeOverflow = ⊥
+<a href="../../laws/RunsSpecs/index.html#IsPlainTableError">IsPlainTableError</a> table.MaximumSizeOverflow = ⊥
+<a href="../../laws/RunsSpecs/index.html#IsPlainTableError">IsPlainTableError</a> table.ResourceLimiterDeniedAllocation = ⊥
+<a href="../../laws/RunsSpecs/index.html#IsPlainTableError">IsPlainTableError</a> table.GrowOutOfBounds = ⊥
 <a href="../../laws/RunsSpecs/index.html#IsPlainTableError">IsPlainTableError</a> table.InitOutOfBounds = Unit {0}
 <a href="../../laws/RunsSpecs/index.html#IsPlainTableError">IsPlainTableError</a> table.FillOutOfBounds = Unit {0}
 <a href="../../laws/RunsSpecs/index.html#IsPlainTableError">IsPlainTableError</a> table.SetOutOfBounds = Unit {0}
 <a href="../../laws/RunsSpecs/index.html#IsPlainTableError">IsPlainTableError</a> table.CopyOutOfBounds = Unit {0}
 <a href="../../laws/RunsSpecs/index.html#IsPlainTableError">IsPlainTableError</a> table.ElementTypeMismatch = Unit {0}
-<a href="../../laws/RunsSpecs/index.html#IsPlainTableError">IsPlainTableError</a> error = ⊥
+<a href="../../laws/RunsSpecs/index.html#IsPlainTableError">IsPlainTableError</a> (table.OutOfFuel required) = ⊥
 
 -- What tools/generate writes ends.
 
 -- The reply is a refusal that is found before the limiter is asked and before anything is charged: a trap, an index
--- that names nothing, an access past the end, another type, metering that is off, or no place for a new slot.
+-- that names nothing, an access past the end, another type, metering that is off, or no place for a new slot. Each reply
+-- has a line.
 abbrev pub <b id="IsPlainRefusal">IsPlainRefusal</b> : Reply → Type 0
+<a href="../../laws/RunsSpecs/index.html#IsPlainRefusal">IsPlainRefusal</a> reply.Done = ⊥
+<a href="../../laws/RunsSpecs/index.html#IsPlainRefusal">IsPlainRefusal</a> (reply.Made index) = ⊥
+<a href="../../laws/RunsSpecs/index.html#IsPlainRefusal">IsPlainRefusal</a> (reply.Value value) = ⊥
+<a href="../../laws/RunsSpecs/index.html#IsPlainRefusal">IsPlainRefusal</a> (reply.Number number) = ⊥
+<a href="../../laws/RunsSpecs/index.html#IsPlainRefusal">IsPlainRefusal</a> (reply.Bytes bytes) = ⊥
+<a href="../../laws/RunsSpecs/index.html#IsPlainRefusal">IsPlainRefusal</a> (reply.Reference value) = ⊥
 <a href="../../laws/RunsSpecs/index.html#IsPlainRefusal">IsPlainRefusal</a> (reply.Memory error) = <a href="../../laws/RunsSpecs/index.html#IsPlainMemoryError">IsPlainMemoryError</a> error
 <a href="../../laws/RunsSpecs/index.html#IsPlainRefusal">IsPlainRefusal</a> (reply.Table error) = <a href="../../laws/RunsSpecs/index.html#IsPlainTableError">IsPlainTableError</a> error
-<a href="../../laws/RunsSpecs/index.html#IsPlainRefusal">IsPlainRefusal</a> reply = <a href="../../machine/StateSpecs/index.html#IsRefusal">IsRefusal</a> reply
+<a href="../../laws/RunsSpecs/index.html#IsPlainRefusal">IsPlainRefusal</a> (reply.Fuel error) = Unit {0}
+<a href="../../laws/RunsSpecs/index.html#IsPlainRefusal">IsPlainRefusal</a> (reply.Global error) = Unit {0}
+<a href="../../laws/RunsSpecs/index.html#IsPlainRefusal">IsPlainRefusal</a> (reply.Segment error) = Unit {0}
+<a href="../../laws/RunsSpecs/index.html#IsPlainRefusal">IsPlainRefusal</a> (reply.Trap code) = Unit {0}
+<a href="../../laws/RunsSpecs/index.html#IsPlainRefusal">IsPlainRefusal</a> reply.NoSuch = Unit {0}
+<a href="../../laws/RunsSpecs/index.html#IsPlainRefusal">IsPlainRefusal</a> reply.NoRegion = Unit {0}
+<a href="../../laws/RunsSpecs/index.html#IsPlainRefusal">IsPlainRefusal</a> reply.NoRoom = Unit {0}
 
 module _ {S : Type 0} (rules : <a href="../../meter/LimiterSpecs/index.html#Rules">Rules</a> S) where
   -- a run of turns is, at each place, a run of those before it, and a run of the others from where these end
