@@ -227,16 +227,16 @@ module _ {L : Type 0} (rules : Rules L) (r r' : LimiterRef (MutBor L)) (s s' : S
       (seen.0, (charge, written, seen.1))
 
   -- so is a run, unless it is refused
-  pub run_lent : {R E : Type 0} (items : R → List Reply) (calls : List Call) (result : Result R E)
+  pub run_lent : {R E P : Type 0} (items : R → List Reply) (calls : List Call) (result : Result R E)
       → IfOk result (λ replies. IsRunOf (optional_rules (lent_rules rules)) calls (world s (Some r)) (items replies)
       (world s' (Some r')))
-      → OnErr result ((s' ≡ s) × (r' ≡ r)) → KeepsLoan r r'
+      → OnErr result P → (P → r' ≡ r) → KeepsLoan r r'
       × IfOk result (λ replies. IsRunOf (optional_rules rules) calls (world s (lent_limiter r)) (items replies)
       (world s' (lent_limiter r')))
-  run_lent items calls (Ok replies) (turns, called, replied, ran) same =
+  run_lent items calls (Ok replies) (turns, called, replied, ran) refused same =
       let seen = run_carried lent_carries (world s (Some r)) turns (world s' (Some r')) (loan_same r) ran in
       (seen.0, (turns, called, replied, seen.1))
-  run_lent items calls (Err error) ran same = (rw same.1 (loan_same r), tt)
+  run_lent items calls (Err error) ran refused same = (rw (same refused) (loan_same r), tt)
 
 module _ {S : Type 0} (rules : Rules S) where
   -- the replies that tell of no denial, in any state of the limiter

@@ -1,21 +1,10 @@
-use Rattle.std.proofs.Common.{◌≡◌}
 use Rattle.wasmi_machine.proofs.RevealingLemmas.{run_lent}
-use Rattle.std.proofs.lemmas.Result.{on_err_weaker}
 use Rattle.wasmi_machine.proofs.running.run_into.Goals as goal
 
-pub returns : goal.returns
-returns g c =
-    let ran = c.run_into_lending.ensures in
-    let new = c.run_into_lending.new in
-    let seen = run_lent g.L.ResourceLimiter.rules c.args.limiter.now new.limiter c.args.machine.now new.machine
-    (λ _. new.replies.items) c.args.calls.now c.run_into_lending.result ran.run
-    (on_err_weaker {Q = (new.machine ≡ c.args.machine.now) × (new.limiter ≡ c.args.limiter.now)} _
-    (λ same. (same.0, same.1)) ran.err) in
-    record {
-      loan = seen.0;
-      run = seen.1;
-      accepted = ran.accepted;
-      err = ran.err;
-      capacity = ran.capacity;
-      valid = ran.valid;
-    }
+pub returns-clause-loan : goal.returns-clause-loan
+returns-clause-loan g c = (run_lent g.L.ResourceLimiter.rules _ _ _ _ (λ _. c.run_into_lending.new.replies.items) _ _
+    c.run_into_lending.ensures.run c.run_into_lending.ensures.err (λ same. same.1)).0
+
+pub returns-clause-run : goal.returns-clause-run
+returns-clause-run g c = (run_lent g.L.ResourceLimiter.rules _ _ _ _ (λ _. c.run_into_lending.new.replies.items) _ _
+    c.run_into_lending.ensures.run c.run_into_lending.ensures.err (λ same. same.1)).1
