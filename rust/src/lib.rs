@@ -125,8 +125,8 @@ extern crate alloc;
 extern crate std;
 
 #[macro_use]
-#[path = "proved/docs.rs"]
-mod docs;
+#[path = "proved/api.rs"]
+mod api;
 #[macro_use]
 mod examples;
 #[macro_use]

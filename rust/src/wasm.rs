@@ -1,9 +1,10 @@
 //! The scalar instructions of WebAssembly, and its loads and stores. Of floats only what moves bits.
 //!
-//! A function has the name of its instruction, with `_` for a dot, and its operands in the order of
-//! the specification. Loads and stores access the address `ptr + offset` of the bytes of a memory,
-//! the forms with `_at` the given one; they return [`TrapCode::MemoryOutOfBounds`] if the access ends
-//! past the bytes, and write nothing then.
+//! A function has the name of its instruction, with `_` for a dot, or upstream's (`load_u32` is
+//! `i32.load`, `i32_bitand` `i32.and`), and its operands in the order of the specification. Loads
+//! and stores access the address `ptr + offset` of a memory's bytes, the forms with `_at` the given
+//! one; they return [`TrapCode::MemoryOutOfBounds`] if the access ends past the bytes, and write
+//! nothing then.
 //!
 //! # Examples
 //!

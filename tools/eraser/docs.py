@@ -162,7 +162,7 @@ def all_methods(text, item):
 
 
 def included(crates, api, standard):
-    """The text of docs.rs: an arm of the macro `docs` for each item that the files of the API name, and the methods that pass on."""
+    """The text of api.rs: an arm of the macro `docs` for each item that the files of the API name, and the methods that pass on."""
     texts = [path.read_text() for path in sorted(api.glob("*.rs"))]
     lists = [(part, item, names.strip()) for text in texts for part, item, names in METHODS.findall(text)]
     whole = {(part, item): all_methods(crates[part], item) for part, item, names in lists if names == ".."}
@@ -170,7 +170,7 @@ def included(crates, api, standard):
     named = [it for text in texts for it in NAMED.findall(text)] + [(part, f"{item}.{name}") for part, item, name in passing]
     named += [(part, name) for part, _, functions in instructions(crates, api) for name, given, _ in functions if "ImmLaneIdx" in given]
     arms = [f'    ({part} {name}) => {{ r####"{docs_of(crates[part], name)}\n"#### }};\n' for part, name in sorted(set(named))]
-    return f"""//! The docs of proved items, by the module and the item, and methods that pass on to them.
+    return f"""//! What the types of the API pass on to proved items, the re-exports of instructions, and the docs of both.
 macro_rules! docs {{
 {"".join(arms)}}}
 

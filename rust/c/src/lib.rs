@@ -17,8 +17,8 @@
 extern crate alloc;
 
 #[macro_use]
-#[path = "../../src/proved/docs.rs"]
-mod docs;
+#[path = "../../src/proved/api.rs"]
+mod api;
 #[macro_use]
 #[path = "../../src/examples.rs"]
 mod examples;

@@ -1,4 +1,4 @@
-//! The docs of proved items, by the module and the item, and methods that pass on to them.
+//! What the types of the API pass on to proved items, the re-exports of instructions, and the docs of both.
 macro_rules! docs {
     (lanewise i16x8_extract_lane_s) => { r####"One lane, read signed.
 
