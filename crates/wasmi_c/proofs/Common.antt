@@ -55,7 +55,7 @@ pub use Rattle.wasmi_c.specs.Instruction.{Leaves, zip3, lanes_of, extracted_valu
 unfoldable pub use Rattle.wasmi_c.specs.Instruction.{each_of, each_of_two, each_of_three, binary_outcome}
 pub use Rattle.wasmi_c.specs.Machine.Calls.{CallsAreRuns, InTurn, ListsAreRuns, MachineReplies, QuotasAreKept, world_of, word_after, RepliesToStruct}
 unfoldable pub use Rattle.wasmi_c.specs.Machine.Calls.{RepliesInTurn}
-pub use Rattle.wasmi_c.specs.MemoryCalls.{WritesBytesAs, of_memory, by_pages, ended_memory}
+pub use Rattle.wasmi_c.specs.MemoryCalls.{of_memory, by_pages, ended_memory}
 pub use Rattle.wasmi_c.specs.Numbers.{meter_of, with_left, KeepsMeter, MeteredRegion, SameRest, limiter_of, quota_numbers_rules, Embedded, embedded, KeepsQuota, Placed, quota_of, table_type_of, IsState}
 pub use Rattle.wasmi_c.specs.Pool.{with_machine_at, TenantPaysFuel, TenantRepliesToStruct}
 unfoldable pub use Rattle.wasmi_c.specs.Pool.{TenantReplies, TenantRepliesInStatus, TenantRepliesInWord, TenantRepliesToItems}

@@ -16,7 +16,7 @@ use Rattle.wasmi_budget.proofs.TenantLemmas.{elements_alike}
 use Rattle.wasmi_machine.specs.declared.{calls.Call.Call, calls.Reply.Reply, slots.SlotCounts.SlotCounts}
 use Rattle.wasmi_c.specs.Machine.Caps.{Keeps, MachineValue}
 use Rattle.wasmi_c.specs.Machine.CallStructs.{call_of}
-use Rattle.wasmi_c.specs.Machine.NewMachines.{IsAnswer, IsNewWithAnswers, MakesMachine, MakesWithAnswers, answer_of}
+use Rattle.wasmi_c.specs.Machine.NewMachines.{IsAnswer, IsNewWithAnswers, MakesMachine, MakesWithAnswers, listed_answer}
 use Rattle.wasmi_c.specs.declared.{machine.call_struct.CallStruct.CallStruct, machine.limits.Limits.Limits}
 use Rattle.wasmi_machine.proofs.MemoryEffectsLemmas.{vector_store_facts, write_facts}
 use Rattle.wasmi_machine.specs.MemoryEffects.{StoresMemoryAt, WritesMemoryAt}
@@ -150,10 +150,10 @@ made_so IsNew machine (Some old) status held' there is = there
 -- where there is none, what is made as a new machine with answers is made with these answers
 pub made_with_answers : (limits : Limits) (numbers : List ℕ) (machine : MachineValue) (held : Option MachineValue)
     (status : ℕ) (held' : Option MachineValue) → MakesMachine (λ made. made ≡ machine) held status held'
-    → is_some held ≡ false → All IsAnswer numbers → IsNewWithAnswers limits (map answer_of numbers) machine
+    → is_some held ≡ false → All IsAnswer numbers → IsNewWithAnswers limits (map listed_answer numbers) machine
     → MakesWithAnswers limits numbers held status held'
 made_with_answers limits numbers machine None status held' made none all is =
-    inr (all, made_so (IsNewWithAnswers limits (map answer_of numbers)) machine None status held' made is)
+    inr (all, made_so (IsNewWithAnswers limits (map listed_answer numbers)) machine None status held' made is)
 made_with_answers limits numbers machine (Some old) status held' made none all is = absurd cc
 
 module _ {V : Type 0} (Replies : CallStruct → V → ReplyStruct → V → Type 0) where

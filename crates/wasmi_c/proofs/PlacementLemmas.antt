@@ -2,7 +2,7 @@
 -- another limiter too, the quota of some numbers or one that allows the host's answers; and growths that ask no
 -- limiter.
 use Rattle.std.proofs.Common.{◌≡◌, Bool, true, false, ℕ, ◌-◌, Option, Some, None, Result, refl, ap, inl, inr, Ok, List, take, drop, length, ◌++◌, ◌∙◌, ◌⊎◌, ◌+◌, ◌/◌, ◌≤◌, arith}
-use Rattle.wasmi_c.proofs.Common.{take_at, drop_at, nat_eq, if◌then◌else◌, option_map, unwrap_or, Rules, Question, Answer, Failure, NoticeAnswer, optional_rules, AskedIf, NoticedIf, Meter, meter_after, meter_of, with_left, KeepsMeter, MeteredRegion, SameRest, limiter_of, quota_numbers_rules, KeepsQuota, page_bytes, by_pages, MemoryValue, Embedded, embedded, WritesBytesAs, of_memory, WritesTableAs, of_table, TableTypeValue, TableValue, TableWrite, WritesTable, table_of, Quota, quota_rules, Placed, Lent, MemoryTypeValue, creation_of}
+use Rattle.wasmi_c.proofs.Common.{take_at, drop_at, nat_eq, if◌then◌else◌, option_map, unwrap_or, Rules, Question, Answer, Failure, NoticeAnswer, optional_rules, AskedIf, NoticedIf, Meter, meter_after, meter_of, with_left, KeepsMeter, MeteredRegion, SameRest, limiter_of, quota_numbers_rules, KeepsQuota, page_bytes, by_pages, MemoryValue, Embedded, embedded, IsState, length-take-le, of_memory, WritesTableAs, of_table, TableTypeValue, TableValue, TableWrite, WritesTable, table_of, Quota, quota_rules, Placed, Lent, MemoryTypeValue, creation_of}
 use Rattle.std.specs.Prelude.{OnErr}
 use Rattle.std.proofs.lemmas.Grind.{common_steps}
 use Rattle.wasmi_store.specs.Growth.{Growth, Grows, metered_value, metered}
@@ -17,7 +17,7 @@ use Rattle.wasmi_meter.specs.declared.{error.MemoryError.MemoryError, error.Tabl
 use Rattle.wasmi_meter.proofs.AttemptLemmas.{meter_after_nothing}
 use Rattle.wasmi_meter.specs.Attempt.{MeteredValue, Attempt, Request, AttemptOutcome, Unasked, Denied, Met, Failed, Follows, answer_of}
 use Rattle.wasmi_c.specs.Placement.{status_of, grown_number, written_number, Placement, GrowsAs, GrowsBy, LeavesAs, WritesAs, Limited, limiter_after, Allows, SettlesGrowth, SettlesCreation}
-use Rattle.wasmi_c.specs.MemoryCalls.{MakesEmbedded}
+use Rattle.wasmi_c.specs.MemoryCalls.{MakesEmbedded, WritesBytesEmbedded}
 use Rattle.wasmi_c.specs.Numbers.{settings_of}
 use Rattle.wasmi_c.specs.Host.{fresh, host_rules}
 
@@ -71,18 +71,19 @@ written_by p Writes size s s' after m' result status charged left writes long pl
     }
 
 -- a write of bytes over the front of a region is one of what lies with C
-pub written_with : (written : Range → List ℕ → Option (List ℕ)) (range : Range) (size : ℕ) (s s' : MeteredRegion)
-    (after : List ℕ) (m' : Meter) (result : Result (Unit {0}) MemoryError) (status : ℕ)
-    → s'.meter ≡ with_left s.meter m'.left
-    → BulkWrites (written range (take size s.region)) range.count
-    (metered (take size s.region) (Some (meter_of s.meter))) result (metered after (Some m'))
-    → length after ≡ size → s'.region ≡ after ++ drop size s.region
+pub written_with : (written : Range → List ℕ → Option (List ℕ)) (range : Range) (h : MemoryNumbers)
+    (ty : MemoryTypeValue) (s s' : MeteredRegion) (after : List ℕ) (m' : Meter) (result : Result (Unit {0}) MemoryError)
+    (status : ℕ) → IsState h s.region ty → s'.meter ≡ with_left s.meter m'.left
+    → BulkWrites (written range (take h.size s.region)) range.count
+    (metered (take h.size s.region) (Some (meter_of s.meter))) result (metered after (Some m'))
+    → length after ≡ length (take h.size s.region) → s'.region ≡ after ++ drop h.size s.region
     → (status ≡ status_of of_memory result) × (s'.number ≡ written_number of_memory result s.number)
-    → WritesBytesAs written range size s status s'
-written_with written range size s s' after m' result status left writes =
-    let charged = items_taken OutOfFuel (written range (take size s.region)) OutOfBoundsAccess
+    → WritesBytesEmbedded written range h s status s'
+written_with written range h ty s s' after m' result status at left writes long placed tells =
+    let charged = items_taken OutOfFuel (written range (take h.size s.region)) OutOfBoundsAccess
     (Some (item_price 1 range.count)) _ _ result writes in
-    written_by of_memory _ size s s' after m' result status charged left writes
+    let same = long ∙ length-take-le h.size s.region at.within in
+    inr (ty, at, written_by of_memory _ h.size s s' after m' result status charged left writes same placed tells)
 
 -- a write of elements over the front of a region is one of what lies with C
 pub table_written_with : (write : TableValue → TableWrite) (ty : TableTypeValue) (size : ℕ) (s s' : MeteredRegion)

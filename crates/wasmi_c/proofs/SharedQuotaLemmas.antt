@@ -71,7 +71,7 @@ module _ {V E : Type 0} (e : Request V E) where
   abbrev pub kind : Kind
   kind = e.question.kind
 
-  -- how much an attempt asks for
+  -- how much an attempt asks of the quota
   abbrev pub asked_for : ℕ
   asked_for = e.question.desired - e.question.current
 

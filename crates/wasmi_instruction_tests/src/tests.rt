@@ -59,7 +59,7 @@ fn wide_arithmetic(rt: HostRuntime) {
 #[test]
 fn one_page(rt: HostRuntime) {
     const REFUSED: TrapCode = TrapCode::MemoryOutOfBounds;
-    let mut page = vec![in rt.alloc(); 0u8; 65536].expect(&rt, "there is room for a page");
+    let mut page = [0u8; 65536];
     answers!(&rt;
         load_u64(&page, 65528, 0) => Ok(0),
         load_u64(&page, 65529, 0) => Err(REFUSED),
@@ -75,21 +75,12 @@ fn one_page(rt: HostRuntime) {
 }
 
 #[test]
-fn v128_or_works(rt: HostRuntime) {
-    let answer = v128_or(i16x8_splat(0), i16x8_splat(-1));
-    same(&rt, "v128_or", answer, i16x8_splat(-1));
-}
-
-#[test]
-fn i32x4_dot_i16x8_s_works(rt: HostRuntime) {
-    let answer = i32x4_dot_i16x8_s(i16x8_splat(16383), i16x8_splat(16384));
-    same(&rt, "i32x4_dot_i16x8_s", answer, i32x4_splat(536838144));
-}
-
-#[test]
-fn i8x16_narrow_i16x8_s_works(rt: HostRuntime) {
-    let answer = i8x16_narrow_i16x8_s(i16x8_splat(128), i16x8_splat(128));
-    same(&rt, "i8x16_narrow_i16x8_s", answer, i8x16_splat(127));
+fn vector_instructions_work(rt: HostRuntime) {
+    answers!(&rt;
+        v128_or(i16x8_splat(0), i16x8_splat(-1)) => i16x8_splat(-1),
+        i32x4_dot_i16x8_s(i16x8_splat(16383), i16x8_splat(16384)) => i32x4_splat(536838144),
+        i8x16_narrow_i16x8_s(i16x8_splat(128), i16x8_splat(128)) => i8x16_splat(127),
+    );
 }
 
 #[test]
@@ -160,8 +151,8 @@ fn words_with_unequal_lanes(rt: HostRuntime) {
 
 #[test]
 fn lane_indices_are_below_their_number(rt: HostRuntime) {
-    answers!(&rt;
-        ImmLaneIdx16::try_from(15).map(u8::from) => Ok(15),
-        ImmLaneIdx16::try_from(16).map(u8::from) => Err(OutOfBoundsLaneIdx),
-    );
+    let last = ImmLaneIdx16::try_from(15).expect(&rt, "a lane");
+    let none = ImmLaneIdx16::try_from(16).err();
+    let answer = (u8::from(last), none);
+    same(&rt, "15 and 16", answer, (15, Some(OutOfBoundsLaneIdx)));
 }

@@ -2,8 +2,7 @@
 -- carried or borrowed from below; where lanes of one width begin and end in a word, from its lowest bits on, and words
 -- that have the same lanes.
 use Rattle.std.proofs.Common.{◌≡◌, ℕ, zero, suc, ◌+◌, ◌-◌, ◌*◌, ◌/◌, ◌%◌, ◌^◌, ◌<◌, ◌≤◌, sym, ap, ◌∙◌, arith, zero-mul, suc-mul, mul-zero, add_comm, le_refl, div-one, mod-lt, bit_and, bit_or, bit_xor, one-add}
-use Rattle.wasmi_lanes.proofs.Common.{bit_at, zero-div, zero-mod, add-mod, add-mod_right, add-mul-mod_self_right, mod-add-mod, mod-mod, pow_pos, pow-add, mul-le, shr-shr, and_mask, div-add-mod', div-mul-add, mod-mul-add, and_shr, and_mod, or_shr, or_mod, xor_shr, xor_mod, field_of, shr_below, field}
-use Rattle.std.proofs.Math.Pow.{ones_split, shr_mono, mod-mod-pow}
+use Rattle.wasmi_lanes.proofs.Common.{bit_at, zero-div, zero-mod, add-mod, add-mod_right, add-mul-mod_self_right, mod-add-mod, mod-mod, pow_pos, pow-add, mul-le, shr-shr, and_mask, div-add-mod', div-mul-add, mod-mul-add, and_shr, and_mod, or_shr, or_mod, xor_shr, xor_mod, field_of, shr_below, field, ones_split, shr_mono, mod-mod-pow}
 
 -- a field of w bits is below 2 ^ w
 pub field_lt : (k w a : ℕ) → field k w a < 2 ^ w

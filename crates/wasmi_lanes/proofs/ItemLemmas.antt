@@ -1,9 +1,7 @@
 -- Lists by their items (`AreItems`): one number in each place, what is computed of other lists' items, and items that a
 -- test chooses. Lanes as std::simd has them are such lists.
 use Rattle.std.proofs.Common.{ℕ, ◌-◌, ◌^◌, ◌<◌, ◌≡◌, List, length, get_or, map, replicate, refl, sym, ap, ap₂, ◌∙◌, arith, Bool, false, cond}
-use Rattle.wasmi_lanes.proofs.Common.{zip2, sel_l, length-zip2, get_or-zip2, get_or-sel_l, get_or-replicate, length-replicate, tops_compared, get_or-map, Width, bits}
-use Rattle.std.proofs.lemmas.List.{length-map}
-use Rattle.std.proofs.lemmas.Simd.{length-sel_l}
+use Rattle.wasmi_lanes.proofs.Common.{zip2, sel_l, length-zip2, get_or-zip2, get_or-sel_l, get_or-replicate, length-replicate, tops_compared, get_or-map, Width, bits, length-map, length-sel_l}
 use lib.Lanes.{top}
 use mir.Val.{hbits}
 

@@ -1,11 +1,10 @@
 -- Lanes as std::simd has them, which are the digits of a number: how they are read from the bytes of a vector, and how
 -- a vector is written by its bytes; lanes moved by half of their range.
 use Rattle.std.proofs.Common.{ℕ, ◌+◌, ◌%◌, ◌<◌, ◌≡◌, List, [], ◌∷◌, length, get_or, map, replicate, refl, sym, ap, ◌∙◌, arith, zero, suc, pos, ◌*◌, ◌/◌, ◌^◌, ◌≤◌, zero-mul, suc-mul, mod-eq_of_lt, w8, w64, le_refl}
-use Rattle.wasmi_lanes.proofs.Common.{zip2, digits_l, number_l, Each1, Each1-from_get_or, mod-one, mod-pow-add, div-mul-add, mod-mul-add, pow-add, mul-le, get_or-map, Width, w16, w32, bits, signed, lane, field}
+use Rattle.wasmi_lanes.proofs.Common.{zip2, digits_l, number_l, Each1, Each1-from_get_or, mod-one, mod-pow-add, div-mul-add, mod-mul-add, pow-add, mul-le, get_or-map, Width, w16, w32, bits, signed, lane, field, Each1-replicate}
 use Rattle.wasmi_raw.specs.RawVal.{vector_of}
 use Rattle.wasmi_lanes.proofs.FieldLemmas.{first_lane, next_lane}
 use Rattle.wasmi_lanes.proofs.ItemLemmas.{items, repeated, zipped}
-use Rattle.std.proofs.lemmas.Simd.{Each1-replicate}
 
 -- a lane of 8 bits moved by half of its range
 pub biased_8 : (xs : List ℕ) (i : ℕ) → length xs ≡ 16 → i < 16

@@ -1,10 +1,7 @@
 -- One lane as a number of its own: its highest bit and the rest, sums, differences and inequality by these two; and
 -- what leaves room for a carry or a borrow where a lane begins.
 use Rattle.std.proofs.Common.{◌≡◌, ℕ, zero, suc, ◌+◌, ◌-◌, ◌*◌, ◌/◌, ◌%◌, ◌^◌, ◌<◌, ◌≤◌, max, ◌⊎◌, refl, sym, ap, ◌∙◌, inl, inr, arith, mod-lt, mod-eq_of_lt, bit_and, bit_or, bit_xor, cond, eqb, pow-suc, one-mul, zero-mul, zero-add, add-zero, pos_of_ne-zero, w64, one-add}
-use Rattle.wasmi_lanes.proofs.Common.{mod-one, div-eq_of_lt, div-mul-add, add-mod_right, add-mul-mod_self_right, mod-add-mod, pow_pos, pow-add, mod-pow-add, and_mask, xor_lt, bit_at, eq-eqb, ne_eqb, cases_eq, field}
-use Rattle.std.proofs.lemmas.Nat.Bits.{and_pow, bit_at_and, bit_at_or, bit_at_xor, bit_at-lt, bit_at_not}
-use Rattle.std.specs.Int.Bits.{xor_block, or_add_and, xor_zero_r, xor_zero_l, or_zero_r, xor_self, xor_assoc}
-use Rattle.std.proofs.Math.Numerals.{sub-one}
+use Rattle.wasmi_lanes.proofs.Common.{mod-one, div-eq_of_lt, div-mul-add, add-mod_right, add-mul-mod_self_right, mod-add-mod, pow_pos, pow-add, mod-pow-add, and_mask, xor_lt, bit_at, eq-eqb, ne_eqb, cases_eq, field, sub-one, xor_block, or_add_and, xor_zero_r, xor_zero_l, or_zero_r, xor_self, xor_assoc, and_pow, bit_at_and, bit_at_or, bit_at_xor, bit_at-lt, bit_at_not}
 use Rattle.wasmi_lanes.proofs.FieldLemmas.{field_not}
 
 -- the bits of v below k, whose top is clear

@@ -45,11 +45,9 @@ one_more n m x v a first rest =
 taken_out : (n : ℕ) (xs : List ℕ) (v a : ℕ) → ((i j : ℕ) → i < n → j ≡ a + i → get_or xs i 0 ≡ lane w8 v j)
     → number_l 256 xs % 2 ^ (8 * n) ≡ v / 2 ^ (8 * a) % 2 ^ (8 * n)
 taken_out zero xs v a are = mod-one (number_l 256 xs) ∙ sym (mod-one (v / 2 ^ (8 * a)))
-taken_out (suc n) [] v a are =
-    one_more n 0 0 v a (are 0 a (omega arith) (omega arith))
+taken_out (suc n) [] v a are = one_more n 0 0 v a (are 0 a (omega arith) (omega arith))
     (taken_out n [] v (suc a) (λ i j inside at. are (suc i) j (omega arith) (omega arith)))
-taken_out (suc n) (x ∷ xs) v a are =
-    one_more n (number_l 256 xs) x v a (are 0 a (omega arith) (omega arith))
+taken_out (suc n) (x ∷ xs) v a are = one_more n (number_l 256 xs) x v a (are 0 a (omega arith) (omega arith))
     (taken_out n xs v (suc a) (λ i j inside at. are (suc i) j (omega arith) (omega arith)))
 
 -- ---- bytes by indices below 16

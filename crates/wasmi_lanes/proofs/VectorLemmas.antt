@@ -1,6 +1,6 @@
 -- A vector is made of its lanes, and of the items that these are read as; the lanes of a vector that is made of lanes.
 use Rattle.std.proofs.Common.{ℕ, zero, suc, ◌+◌, ◌-◌, ◌*◌, ◌/◌, ◌%◌, ◌^◌, ◌<◌, ◌≡◌, refl, sym, ◌∙◌, ap₂, arith, add_comm, Bool, true, false, if◌then◌else◌, ◌≤◌, inl, inr, mul-zero, le_refl, mod-eq_of_lt, mod-lt, w8, w64, ◌==◌}
-use Rattle.wasmi_lanes.proofs.Common.{pow_pos, mod-pow-add, pow-add, div-mul-add, mod-mul-add, mul-le, mod-one, mod-mod, lane, lane_count, first_lanes, from_lanes, unary_of_lanes, binary_of_lanes, comparison_of_lanes, splat_of, with_lane, Width, w16, w32, bits, cases_eq, field}
+use Rattle.wasmi_lanes.proofs.Common.{pow_pos, mod-pow-add, pow-add, div-mul-add, mod-mul-add, mul-le, mod-one, mod-mod, lane, lane_count, first_lanes, from_lanes, comparison_of_lanes, splat_of, with_lane, Width, w16, w32, bits, cases_eq, field}
 use Rattle.wasmi_lanes.specs.declared.item.LaneInteger.{Ghosts}
 use mir.Syntax.{w128}
 use Rattle.wasmi_lanes.proofs.FieldLemmas.{field_mod}
@@ -103,27 +103,10 @@ lane_of_first w f (suc n) i inside =
           (lane_of_first w f n i (omega arith))
     ]
 
--- lane i of the vector of the lanes f is f i at the lane's width, where n lanes make 128 bits
-pub lane_of_lanes : (w : Width) (f : ℕ → ℕ) (n i : ℕ) → n * bits w ≡ 128 → i < n
-    → lane w (from_lanes w f) i ≡ f i % 2 ^ bits w
-lane_of_lanes w f n i filled inside = rw (lanes_of_width w n filled) (lane_of_first w f n i inside)
-
 module _ (w : Width) (i : ℕ) (inside : i < 128 / bits w) where
   -- lane i of the vector of the lanes f is f i at the lane's width
   pub lane_of_from : (f : ℕ → ℕ) → lane w (from_lanes w f) i ≡ f i % 2 ^ bits w
   lane_of_from f = lane_of_first w f (128 / bits w) i inside
-
-  -- lane i of the vector of a row of one operand is the row of the operand's lane i
-  pub lane_of_unary : {A : Type 0} (read : ℕ → A) (row : A → ℕ) (a : ℕ)
-      → lane w (unary_of_lanes w read row a) i ≡ row (read (lane w a i)) % 2 ^ bits w
-  unfolding unary_of_lanes
-  lane_of_unary read row a = lane_of_from (λ i. row (read (lane w a i)))
-
-  -- lane i of the vector of a row of two operands is the row of their lanes i
-  pub lane_of_binary : {A : Type 0} (read : ℕ → A) (row : A → A → ℕ) (a b : ℕ)
-      → lane w (binary_of_lanes w read row a b) i ≡ row (read (lane w a i)) (read (lane w b i)) % 2 ^ bits w
-  unfolding binary_of_lanes
-  lane_of_binary read row a b = lane_of_from (λ i. row (read (lane w a i)) (read (lane w b i)))
 
   -- all ones and all zeros, of which a vector of lanes is made, are within the width
   choice_fits : (t : Bool) → (if t then 2 ^ bits w - 1 else 0) % 2 ^ bits w ≡ (if t then 2 ^ bits w - 1 else 0)

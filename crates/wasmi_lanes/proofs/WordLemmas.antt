@@ -1,10 +1,7 @@
 -- Sums, differences and inequality of the lanes of a word, which may have unequal widths, also above the last top; a
 -- word made of its lanes.
 use Rattle.std.proofs.Common.{◌≡◌, ℕ, zero, suc, ◌+◌, ◌-◌, ◌*◌, ◌%◌, ◌^◌, ◌<◌, ◌≤◌, ◌⊎◌, ap, ap₂, ◌∙◌, arith, mod-eq_of_lt, bit_and, bit_or, bit_xor, cond, eqb, pow-suc, ◌/◌, List, [], ◌∷◌, sum, refl, sym, div-one, mul-one}
-use Rattle.wasmi_lanes.proofs.Common.{and_assoc, and_le_l, and_mask, div-add-mod', shr-shr, pow-add, bit_at, field, IsLane, IsLastLane, AreLanes, word_of_lanes, div-eq_of_lt}
-use Rattle.std.specs.Int.Bits.{and_self, and_zero_r, or_zero_r, xor_zero_r}
-use Rattle.std.proofs.Math.Nat.{sub-zero}
-use Rattle.std.proofs.Math.Numerals.{sub-one}
+use Rattle.wasmi_lanes.proofs.Common.{and_assoc, and_le_l, and_mask, div-add-mod', shr-shr, pow-add, bit_at, field, IsLane, IsLastLane, AreLanes, word_of_lanes, div-eq_of_lt, sub-one, and_self, and_zero_r, or_zero_r, xor_zero_r, sub-zero}
 use Rattle.wasmi_lanes.proofs.FieldLemmas.{field_lt, field_and, field_or, field_xor, field_add, field_mod, field_not, field_wrapping_sub}
 use Rattle.wasmi_lanes.proofs.TopLemmas.{room, filled, lane_add, lane_sub, lane_differ}
 use Rattle.std.proofs.lemmas.List.Sums.{sum_by-cons}

@@ -1,10 +1,7 @@
 -- Vectors by their two words, whose lanes are those of the words. Words with one number in each lane of one width: one
 -- with the highest bit of each lane divides a word into these lanes, also where the word's highest bit is left out.
 use Rattle.std.proofs.Common.{◌≡◌, ℕ, zero, suc, ◌+◌, ◌-◌, ◌*◌, ◌/◌, ◌%◌, ◌^◌, ◌<◌, ◌≤◌, ◌⊎◌, inl, inr, refl, sym, ap, ◌∙◌, arith, mul-zero, w8, w64, one-add, pow-suc}
-use Rattle.wasmi_lanes.proofs.Common.{cases_lt, pow_pos, shr-shr, field_of, zero-mod, mod_self, bit_at, Width, w16, w32, bits, lane, from_lanes, field, IsLane, IsLastLane, lanes_in_word, in_each_lane}
-use Rattle.std.proofs.Math.Numerals.{sub-one}
-use Rattle.std.proofs.Math.Pow.{mod-mod-pow}
-use Rattle.std.proofs.lemmas.Nat.Bits.{bit_at-pow_same}
+use Rattle.wasmi_lanes.proofs.Common.{cases_lt, pow_pos, shr-shr, field_of, zero-mod, mod_self, bit_at, Width, w16, w32, bits, lane, from_lanes, field, IsLane, IsLastLane, lanes_in_word, in_each_lane, mod-mod-pow, sub-one, bit_at-pow_same}
 use Rattle.wasmi_raw.specs.RawVal.{vector_of}
 use Rattle.wasmi_lanes.proofs.FieldLemmas.{field_mod, lane_ends, top_of_lane}
 use Rattle.wasmi_lanes.proofs.SimdLaneLemmas.{repeated_lane}

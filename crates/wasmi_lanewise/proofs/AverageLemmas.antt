@@ -1,8 +1,7 @@
 -- The averages of lanes, rounded up, by the bits that either lane has and half of those that differ, which never borrow
 -- from the lane below.
 use Rattle.std.proofs.Common.{◌≡◌, ℕ, zero, suc, ◌+◌, ◌-◌, ◌*◌, ◌/◌, ◌%◌, ◌^◌, ◌<◌, ◌≤◌, inl, inr, sym, ap, ◌∙◌, arith, mod-eq_of_lt, bit_and, bit_or, bit_xor, ◌⊎◌, pow-suc, one-add, add-one}
-use Rattle.wasmi_lanewise.proofs.Common.{add-mod_right, and_mod, or_mod, xor_mod, mod-pow-add, field_of, or_lt, and_le_l, field, IsLane, field_lt, field_not, field_or, field_xor, field_sub, lane_shr, w64, lane, bit_at_and, bit_at_not, bit_at}
-use Rattle.std.specs.Int.Bits.{or_add_and, xor_add_and}
+use Rattle.wasmi_lanewise.proofs.Common.{add-mod_right, and_mod, or_mod, xor_mod, mod-pow-add, field_of, or_lt, and_le_l, field, IsLane, field_lt, field_not, field_or, field_xor, field_sub, lane_shr, w64, lane, bit_at_and, bit_at_not, bit_at, or_add_and, xor_add_and}
 
 -- modulo 2 ^ k, half of z without its bit k - 1 is at most z, so taking it away borrows nothing
 pub mean_low : (k z rest : ℕ) → (k ≡ 0) ⊎ (bit_at rest (k - 1) ≡ 0) → bit_and (z / 2) rest % 2 ^ k ≤ z % 2 ^ k

@@ -1,8 +1,7 @@
 -- Bytes chosen by indices, as std::simd chooses them for the shuffle and the swizzle: by the low four bits of an index,
 -- and 0 for an index above 15.
 use Rattle.std.proofs.Common.{ℕ, ◌%◌, ◌<◌, ◌≤◌, ◌≡◌, List, length, get_or, replicate, map, ◌+◌, ◌*◌, ◌/◌, refl, ◌∙◌, arith, inl, inr, nat_lt, if◌then◌else◌, true, false, not, ◌||◌, cond, ltb, leb, bit_and, w8, Fits, T}
-use Rattle.wasmi_lanewise.proofs.Common.{zip2, sel_l, Each1, cases_lt, lt-ltb, le-ltb, and_mask, swz_l, SwzOk, SwzOk-from_Each1, Each1-from_get_or, Each1-get_or, below_from_Fits, get_or-swz_l, lane, lane_below}
-use Rattle.wasmi_lanes.proofs.ItemLemmas.{AreItems, items, repeated, zipped, chosen_by}
+use Rattle.wasmi_lanewise.proofs.Common.{zip2, sel_l, Each1, cases_lt, lt-ltb, le-ltb, and_mask, swz_l, SwzOk, SwzOk-from_Each1, Each1-from_get_or, Each1-get_or, below_from_Fits, get_or-swz_l, lane, lane_below, AreItems, items, repeated, zipped, chosen_by}
 use Rattle.wasmi_lanes.proofs.VariableLaneLemmas.{computed, indices_may_index, picked_inside_at}
 use lib.Lanes.{top}
 
@@ -100,8 +99,7 @@ module _ (js : List ℕ) (long : length js ≡ 16) (fits : Each1 (Fits w8) js) w
 -- the bytes of a vector, as indices, fit into 8 bits
 pub bytes_fit : (v : ℕ) (xs : List ℕ) → length xs ≡ 16 → ((i : ℕ) → i < 16 → get_or xs i 0 ≡ lane w8 v i)
     → Each1 (Fits w8) xs
-bytes_fit v xs long are =
-    Each1-from_get_or (Fits w8) xs 0
+bytes_fit v xs long are = Each1-from_get_or (Fits w8) xs 0
     (λ i inside. record { fits = omega (arith, are i (omega arith), lane_below w8 v i) })
 
 -- ---- choices by an index

@@ -1,10 +1,9 @@
 -- The one bits of each lane, counted in lanes of twice the width step by step: a lane has those of its two halves,
 -- which masks take from the word.
 use Rattle.std.proofs.Common.{◌≡◌, ℕ, zero, suc, ◌+◌, ◌-◌, ◌*◌, ◌/◌, ◌%◌, ◌^◌, ◌<◌, refl, sym, ap, ap₂, ◌∙◌, ◌⊎◌, inl, inr, arith, mul-add, mul-suc, mul-zero, add-mul, mul-one, mod-lt, mod-eq_of_lt, bit_and, pow-suc, lit<, count_ones, add_comm}
-use Rattle.wasmi_lanewise.proofs.Common.{mod-one, pow_pos, shr-shr, mod-pow-add, and_mask, and_le_l, and_le_r, ones_cat, ones-le, mod-mod-pow, bit_at_and, bit_at_ones_above, bit_at, field, field_and, field_add, field_lt, field_mod, field_wrapping_sub, repeated_lane, top_of_lane}
+use Rattle.wasmi_lanewise.proofs.Common.{mod-one, pow_pos, shr-shr, mod-pow-add, and_mask, and_le_l, and_le_r, ones_cat, ones-le, mod-mod-pow, bit_at_and, bit_at_ones_above, bit_at, field, field_and, field_add, field_lt, field_mod, field_wrapping_sub, repeated_lane, top_of_lane, ones_le_self, zero_from_ones}
 use Rattle.wasmi_lanes.proofs.TopLemmas.{clear_top}
 use Rattle.wasmi_lanewise.proofs.AverageLemmas.{mean_low}
-use Rattle.std.proofs.lemmas.Nat.{ones_le_self, zero_from_ones}
 
 -- a lane, masked by the ones of its lower half, is that half
 lower_half : (w k y mask : ℕ) → field k (w + w) mask ≡ 2 ^ w - 1 → field k (w + w) (bit_and y mask) ≡ field k w y
@@ -17,14 +16,12 @@ lower_half w k y mask is =
 upper_half : (w k y mask : ℕ) → field k (w + w) mask ≡ 2 ^ w - 1
     → field k (w + w) (bit_and (y / 2 ^ w) mask) ≡ field (k + w) w y
 unfolding field
-upper_half w k y mask is =
-    rw (lower_half w k (y / 2 ^ w) mask is, shr-shr y w k, add_comm w k)
+upper_half w k y mask is = rw (lower_half w k (y / 2 ^ w) mask is, shr-shr y w k, add_comm w k)
 
 -- the one bits of a lane are those of its halves
 halves : (w k v : ℕ) → count_ones (field k (w + w) v) ≡ count_ones (field (k + w) w v) + count_ones (field k w v)
 unfolding field
-halves w k v =
-    rw (mod-pow-add (v / 2 ^ k) w w, ← shr-shr v k w)
+halves w k v = rw (mod-pow-add (v / 2 ^ k) w w, ← shr-shr v k w)
     (ones_cat w (v / 2 ^ k / 2 ^ w % 2 ^ w) (v / 2 ^ k % 2 ^ w) (mod-lt (v / 2 ^ k) (pow_pos w)))
 
 -- the highest bit of a lane whose upper half is clear
@@ -40,8 +37,7 @@ mask_off h n mask j is below =
 -- what lies below a lane, masked to the lower halves of its lanes, leaves room for a carry
 half_room : (w n mask v i : ℕ) → 0 < w → ((j : ℕ) → j < n → field ((w + w) * j) (w + w) mask ≡ 2 ^ w - 1) → i < n →
     2 * (bit_and v mask % 2 ^ ((w + w) * i)) < 2 ^ ((w + w) * i)
-half_room w n mask v zero pos is lt =
-    rw (mul-zero (w + w)) (omega (arith, mod-one (bit_and v mask)))
+half_room w n mask v zero pos is lt = rw (mul-zero (w + w)) (omega (arith, mod-one (bit_and v mask)))
 half_room zero n mask v (suc j) pos is lt = absurd (omega arith)
 half_room (suc h) n mask v (suc j) pos is lt =
     let top : ℕ = (suc h + suc h) * j + (h + suc h) in
@@ -114,8 +110,7 @@ first_pairs v j fits below =
 module _ (v z : ℕ) (counted : (j : ℕ) → j < 16 → field (4 * j) 4 z ≡ count_ones (field (4 * j) 4 v)) where
   -- the highest bit of each lane of 4 bits is clear
   off : (j : ℕ) → j < 16 → bit_at z (4 * j + 3) ≡ 0
-  off j below =
-      sym (top_of_lane (4 * j) 3 z)
+  off j below = sym (top_of_lane (4 * j) 3 z)
       ∙ omega (arith, counted j below, ones-le 4 (field (4 * j) 4 v) (field_lt (4 * j) 4 v))
 
   -- what lies below a byte, in z and in z moved down by 4 bits, has a sum without a carry into the byte

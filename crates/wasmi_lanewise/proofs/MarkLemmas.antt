@@ -1,11 +1,9 @@
 -- Marks: words whose lanes are 0 or their highest bit alone. They mark the lanes in which two words are equal or
 -- differ, and fill the marked lanes with ones; words are equal where no lane differs.
 use Rattle.std.proofs.Common.{◌≡◌, ℕ, zero, suc, ◌+◌, ◌-◌, ◌*◌, ◌/◌, ◌%◌, ◌^◌, ◌<◌, ◌⊎◌, inl, inr, cond, eqb, Bool, true, false, not, refl, sym, ap, ap₂, ◌∙◌, arith, mod-eq_of_lt, mod-lt, lit<, bit_xor, pow-suc, mul_comm, one-mul, mul-add, mul-one, one-add, add_comm, zero-mul, mul-zero, div-one}
-use Rattle.wasmi_lanewise.proofs.Common.{zero-mod, mod_self, div-eq_of_lt, pow_pos, shr-shr, mod-pow-add, shr_le, bit_at-zero, bit_at-pow_same, ne_eqb, cases_lt, mod-mod-pow, bit_at, field, IsLane, AreMarks, AreFilled, Width, bits, field_xor, field_of_zero, same_words, top_of_lane, EachLane, eq-eqb, tops_each, div-add-mod'}
+use Rattle.wasmi_lanewise.proofs.Common.{zero-mod, mod_self, div-eq_of_lt, pow_pos, shr-shr, mod-pow-add, shr_le, bit_at-zero, bit_at-pow_same, ne_eqb, cases_lt, mod-mod-pow, bit_at, field, IsLane, AreMarks, AreFilled, Width, bits, field_xor, field_of_zero, same_words, top_of_lane, EachLane, eq-eqb, tops_each, div-add-mod', eqb_tells, xor_self, xor_zero_l}
 use Rattle.wasmi_lanewise.proofs.ShiftLemmas.{scaled_low, lane_scaled}
 use Rattle.wasmi_lanewise.proofs.WordLemmas.{ones_lane}
-use Rattle.std.specs.Int.Bits.{xor_self, xor_zero_l}
-use Rattle.std.proofs.lemmas.Bool.Decides.{eqb_tells}
 
 -- the h bits of v from k are clear
 abbrev Clear : ℕ → ℕ → ℕ → Type 0
@@ -36,10 +34,6 @@ bit_times h f c (inl e) = rw (e, bit_at-zero h) (zero-mul c)
 bit_times h f c (inr e) =
     let some : eqb (2 ^ h) 0 ≡ false = ne_eqb (2 ^ h) 0 (λ z. absurd (omega (arith, pow_pos h))) in
     rw (e, bit_at-pow_same h, some) (one-mul c)
-
--- in lanes of b bits of a word, n of them, each is 0 or its highest bit alone
-abbrev Marked : ℕ → ℕ → ℕ → Type 0
-Marked b n v = (i : ℕ) → i < n → (field (b * i) b v ≡ 0) ⊎ (field (b * i) b v ≡ 2 ^ (b - 1))
 
 -- above a lane of marks stands the next lane, or nothing, so that the bits there are clear
 next_clear : (h n v : ℕ) → v < 2 ^ 64 → n * suc h ≡ 64
@@ -100,12 +94,12 @@ module _ (h n v : ℕ) (fits : v < 2 ^ 64) (whole : n * suc h ≡ 64)
   -- a lane of the filled marks is all ones where it was marked, else all zeros
   filled_lane : (i : ℕ) → i < n
       → field (suc h * i) (suc h) (filled v h) ≡ cond (eqb (field (suc h * i) (suc h) v) 0) 0 (2 ^ suc h - 1)
-  filled_lane i lt =
-      ap (field (suc h * i) (suc h)) (filled_is (omega arith))
+  filled_lane i lt = ap (field (suc h * i) (suc h)) (filled_is (omega arith))
       ∙ lane_scaled (suc h) n ones (v / 2 ^ h) times_fits i lt ∙ shifted_times i lt
 
 -- a lane of marks that were filled is all ones where it was marked, else all zeros
-pub marks_filled : (b n v top : ℕ) → top ≡ b - 1 → v < 2 ^ 64 → n * b ≡ 64 → Marked b n v → (i : ℕ) → i < n
+pub marks_filled : (b n v top : ℕ) → top ≡ b - 1 → v < 2 ^ 64 → n * b ≡ 64
+    → ((i : ℕ) → i < n → (field (b * i) b v ≡ 0) ⊎ (field (b * i) b v ≡ 2 ^ (b - 1))) → (i : ℕ) → i < n
     → field (b * i) b (filled v top) ≡ cond (eqb (field (b * i) b v) 0) 0 (2 ^ b - 1)
 marks_filled zero n v top is fits whole marks i lt = absurd (omega (arith, whole))
 marks_filled (suc h) n v top is fits whole marks i lt =
@@ -120,8 +114,7 @@ pub record Marks (w : Width) (t : ℕ → Bool) (r : ℕ) : Type 0 where
 
 -- what marks lanes is a word of marks
 pub marks_are : {w : Width} {t : ℕ → Bool} {r : ℕ} → Marks w t r → AreMarks w r
-marks_are {w} {t} marks i inside =
-    rw (marks.marked i inside) (either_mark (t (bits w * i)) (2 ^ (bits w - 1)))
+marks_are {w} {t} marks i inside = rw (marks.marked i inside) (either_mark (t (bits w * i)) (2 ^ (bits w - 1)))
   where
     either_mark : (t : Bool) (p : ℕ) → (cond t p 0 ≡ 0) ⊎ (cond t p 0 ≡ p)
     either_mark true p = inr refl
@@ -178,17 +171,12 @@ module _ (w : Width) (tops a b r : ℕ) (lanes : EachLane w (λ k. IsLane tops k
 bit_lane : (i : ℕ) → i < 64 → IsLane (2 ^ 64 - 1) (1 * i) 1
 bit_lane = tops_each 1 64 (2 ^ 64 - 1) (omega arith) (omega arith) (λ j inside. ones_lane (1 * j) 1 (omega arith))
 
--- words of which r has the bits that differ
-abbrev DiffersInBits : ℕ → ℕ → ℕ → Type 0
-DiffersInBits a b r =
-    (start width : ℕ) → IsLane (2 ^ 64 - 1) start width
-    → field start width r ≡ cond (eqb (field start width a) (field start width b)) 0 (2 ^ (width - 1))
-
-module _ {a b r : ℕ} (fits_a : a < 2 ^ 64) (fits_b : b < 2 ^ 64) (differs : DiffersInBits a b r) where
+module _ {a b r : ℕ} (fits_a : a < 2 ^ 64) (fits_b : b < 2 ^ 64)
+    (differs : (start width : ℕ) → IsLane (2 ^ 64 - 1) start width
+    → field start width r ≡ cond (eqb (field start width a) (field start width b)) 0 (2 ^ (width - 1))) where
   -- where no bit differs, a choice by whether the words are equal is its first
   pub equal_where_zero : (p q : ℕ) → r ≡ 0 → p ≡ cond (eqb a b) p q
-  equal_where_zero p q none =
-      rw (eq-eqb a b (same_words 1 64 a b fits_a fits_b
+  equal_where_zero p q none = rw (eq-eqb a b (same_words 1 64 a b fits_a fits_b
       (λ i inside. same_bit (field (1 * i) 1 a) (field (1 * i) 1 b)
       (sym (differs (1 * i) 1 (bit_lane i inside)) ∙ ap (field (1 * i) 1) none ∙ field_of_zero (1 * i) 1))))
     where
@@ -197,8 +185,7 @@ module _ {a b r : ℕ} (fits_a : a < 2 ^ 64) (fits_b : b < 2 ^ 64) (differs : Di
 
   -- where some bit differs, it is its second
   pub different_where_some : (p q : ℕ) → r < 2 ^ 64 → (r ≡ 0 → ⊥) → q ≡ cond (eqb a b) p q
-  different_where_some p q fits some =
-      rw (ne_eqb a b (λ same. some (same_words 1 64 r 0 fits (pow_pos 64)
+  different_where_some p q fits some = rw (ne_eqb a b (λ same. some (same_words 1 64 r 0 fits (pow_pos 64)
       (λ i inside.
       rw (differs (1 * i) 1 (bit_lane i inside), eq-eqb _ _ (ap (field (1 * i) 1) same))
       (sym (field_of_zero (1 * i) 1))))))

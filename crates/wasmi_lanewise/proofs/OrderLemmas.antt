@@ -2,9 +2,8 @@
 -- inverted comparisons. Numbers of w bits, moved by half of their range, stand in the order of the signed numbers with
 -- their bits.
 use Rattle.std.proofs.Common.{ℕ, ℤ, suc, ◌+◌, ◌-◌, ◌*◌, ◌%◌, ◌^◌, ◌<◌, ◌≤◌, ◌≡◌, Bool, true, false, not, cond, if◌then◌else◌, ltb, leb, refl, sym, ap, ap₂, ◌∙◌, arith, pos, negsuc, int_lt, int_le, mod-eq_of_lt, w8}
-use Rattle.wasmi_lanewise.proofs.Common.{pow_pos, int_min, int_max, add-mod_right, lt-ltb, le-ltb, ltb-true, ltb-false, Width, w16, w32, w64, bits, signed, wrap, lane, lane_count, from_lanes, comparison_of_lanes, field, field_not, field_of_zero, lane_ends, lanes_make_vector, lane_below, lane_count_fills, lane_of_comparison, v128_not}
+use Rattle.wasmi_lanewise.proofs.Common.{pow_pos, add-mod_right, lt-ltb, le-ltb, ltb-true, ltb-false, Width, w16, w32, w64, bits, signed, wrap, lane, lane_count, from_lanes, comparison_of_lanes, field, field_not, field_of_zero, lane_ends, lanes_make_vector, lane_below, lane_count_fills, lane_of_comparison, v128_not, leb_tells}
 use Rattle.wasmi_types.proofs.NumbersLemmas.{wrap_of_bits}
-use Rattle.std.proofs.lemmas.Bool.Decides.{leb_tells}
 use mir.Syntax.{w128}
 use mir.Val.{sel, hbits}
 use Rattle.wasmi_lanewise.proofs.MarkLemmas.{turned}
@@ -27,8 +26,7 @@ read_as w low x = sel low (pos x) (negsuc (2 ^ bits w - suc x))
 
 -- two comparisons that follow from each other give the same
 pub same_less : (a b c d : ℕ) → (a < b → c < d) → (b ≤ a → d ≤ c) → ltb a b ≡ ltb c d
-same_less a b c d up down =
-    grind (arith, leb_tells)
+same_less a b c d up down = grind (arith, leb_tells)
 
 -- a number is at most another just where that one isn't less
 pub at_most_is_not_less : (a b : ℕ) → leb a b ≡ not (ltb b a)
@@ -84,17 +82,12 @@ wrap_chosen : (w : Width) (t : Bool) (x y : ℕ) → x < 2 ^ bits w → y < 2 ^ 
 wrap_chosen w true x y fits_x fits_y = sym (wrap_of_bits w x fits_x)
 wrap_chosen w false x y fits_x fits_y = sym (wrap_of_bits w y fits_y)
 
--- the number that is chosen as the smaller one by the order of the moved numbers has the bits of the smaller signed one
-pub signed_smaller_is : (w : Width) (a b : ℕ) → a < 2 ^ bits w → b < 2 ^ bits w
-    → (if ltb (biased w b) (biased w a) then b else a) ≡ wrap w (int_min (signed w a) (signed w b))
-signed_smaller_is w a b fits_a fits_b =
-    rw (biased_is_less w b a fits_b fits_a) (wrap_chosen w (int_lt (signed w b) (signed w a)) b a fits_b fits_a)
-
--- the number that is chosen as the larger one has the bits of the larger signed one
-pub signed_larger_is : (w : Width) (a b : ℕ) → a < 2 ^ bits w → b < 2 ^ bits w
-    → (if ltb (biased w b) (biased w a) then a else b) ≡ wrap w (int_max (signed w a) (signed w b))
-signed_larger_is w a b fits_a fits_b =
-    rw (biased_is_less w b a fits_b fits_a) (wrap_chosen w (int_lt (signed w b) (signed w a)) a b fits_a fits_b)
+-- the number that is chosen by the order of two moved numbers has the bits of the signed one that their order chooses
+pub signed_chosen_is : (w : Width) {a b x y : ℕ} → a < 2 ^ bits w → b < 2 ^ bits w → x < 2 ^ bits w → y < 2 ^ bits w
+    → (if ltb (biased w b) (biased w a) then x else y)
+    ≡ wrap w (cond (int_lt (signed w b) (signed w a)) (signed w x) (signed w y))
+signed_chosen_is w {a} {b} fits_a fits_b fits_x fits_y =
+    rw (biased_is_less w b a fits_b fits_a) (wrap_chosen w (int_lt (signed w b) (signed w a)) _ _ fits_x fits_y)
 
 -- a lane of a vector whose bits are inverted, as those of a comparison are
 lane_of_inverted : (w : Width) (v i : ℕ) → v < 2 ^ 128 → i < lane_count w
@@ -141,8 +134,7 @@ module _ (w : Width) (a b : ℕ) {r : ℕ} (below : r < 2 ^ 128) {x y : ℕ → 
   pub rows_make_vector : (f row : ℕ → ℕ → ℕ) → ((i : ℕ) → i < lane_count w → lane w r i ≡ f (x i) (y i))
       → ((p : ℕ) → (q : ℕ) → p < 2 ^ bits w → q < 2 ^ bits w → f p q ≡ row p q)
       → r ≡ from_lanes w (λ i. row (lane w a i) (lane w b i))
-  rows_make_vector f row is same =
-      lanes_make_vector w (lane_count w) r _ (lane_count_fills w) below
+  rows_make_vector f row is same = lanes_make_vector w (lane_count w) r _ (lane_count_fills w) below
       (λ i inside. is i inside ∙ ap₂ f (is_x i inside) (is_y i inside)
       ∙ same (lane w a i) (lane w b i) (lane_below w a i) (lane_below w b i))
 
@@ -154,6 +146,5 @@ module _ (w : Width) (a b : ℕ) {r : ℕ} (below : r < 2 ^ 128) {x y : ℕ → 
         → ((i : ℕ) → i < lane_count w → lane w r i ≡ f (x i) (y i) (x' i) (y' i))
         → ((p : ℕ) → (q : ℕ) → p < 2 ^ bits w → q < 2 ^ bits w → f p q (biased w p) (biased w q) ≡ row p q)
         → r ≡ from_lanes w (λ i. row (lane w a i) (lane w b i))
-    moved_make_vector f is =
-        rows_make_vector (λ p q. f p q (biased w p) (biased w q)) _
+    moved_make_vector f is = rows_make_vector (λ p q. f p q (biased w p) (biased w q)) _
         (λ i inside. is i inside ∙ ap₂ (f (x i) (y i)) (moved.0 i inside) (moved.1 i inside))

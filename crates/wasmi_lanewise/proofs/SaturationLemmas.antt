@@ -1,8 +1,7 @@
 -- Clamped sums and differences of lanes read unsigned, and rounded products of q15 numbers by the halves of a product
 -- of lanes whose sign was copied to 32 bits, as std::simd computes them.
 use Rattle.std.proofs.Common.{ℕ, ◌+◌, ◌-◌, ◌%◌, ◌^◌, ◌<◌, ◌≡◌, List, length, get_or, map, refl, sym, ap, ◌∙◌, arith, Bool, true, false, cond, ltb, Fits, pos, ◌+ℤ◌, ◌-ℤ◌, ℤ, negsuc, suc, ◌*◌, ◌/◌, ◌≤◌, ◌⊎◌, inl, inr, ◌*ℤ◌, nat_lt, if◌then◌else◌, ap₂, FitsSigned, unsigned_abs, replicate, bit_xor, mod-lt, mod-eq_of_lt}
-use Rattle.wasmi_lanewise.proofs.Common.{zip2, sel_l, Each1, add-mod_right, mul-le-mul, mod-add-mod, ltb-true, ltb-false, cases_lt, lt-ltb, ints, fits_signed_from_abs, unsigned_abs-mul, of_z-to_z, wrapping_mul_is, int_wrap_fits, Each1-get_or, Each1-from_get_or, below_from_Fits, get_or-replicate, Width, bits, clamp_unsigned, w16, w32, signed, wrap, clamp_signed, lane, lane_count, signed_fits, binary_of_lanes, lane_below, lanes_make_vector, lane_count_fills, add_sat_u, sub_sat_u, q15mulr, cast_unsigned, int_shr, pow_pos, mul-mod, mod-mod-pow, mul-le}
-use Rattle.wasmi_lanes.proofs.ItemLemmas.{AreItems, items, repeated, mapped, zipped, chosen_by}
+use Rattle.wasmi_lanewise.proofs.Common.{zip2, sel_l, Each1, add-mod_right, mul-le-mul, mod-add-mod, ltb-true, ltb-false, cases_lt, lt-ltb, ints, fits_signed_from_abs, unsigned_abs-mul, of_z-to_z, wrapping_mul_is, int_wrap_fits, Each1-get_or, Each1-from_get_or, below_from_Fits, get_or-replicate, Width, bits, clamp_unsigned, w16, w32, signed, wrap, clamp_signed, lane, lane_count, signed_fits, binary_of_lanes, lane_below, lanes_make_vector, lane_count_fills, add_sat_u, sub_sat_u, q15mulr, cast_unsigned, int_shr, pow_pos, mul-mod, mod-mod-pow, mul-le, AreItems, items, repeated, mapped, zipped, chosen_by}
 use lib.Lanes.{top}
 use mir.Val.{hbits, sel}
 use Rattle.std.specs.Int.Signed.{shr_z}
@@ -84,8 +83,7 @@ abs_at_most (negsuc n) fits = let below = fits.sfits in omega arith
 module _ (x y : ℤ) (fits_x : FitsSigned w16 x) (fits_y : FitsSigned w16 y) where
   -- the product is at most 2 ^ 30 away from 0
   product_is_small : unsigned_abs (x *ℤ y) ≤ 2 ^ 30
-  product_is_small =
-      omega (arith, mul-le-mul (abs_at_most x fits_x) (abs_at_most y fits_y), unsigned_abs-mul x y)
+  product_is_small = omega (arith, mul-le-mul (abs_at_most x fits_x) (abs_at_most y fits_y), unsigned_abs-mul x y)
 
   -- the largest product is far above the next one
   product_has_gap : (unsigned_abs (x *ℤ y) ≤ 2 ^ 30 - 2 ^ 15) ⊎ (2 ^ 30 ≤ unsigned_abs (x *ℤ y))
@@ -103,8 +101,7 @@ module _ (x y : ℤ) (fits_x : FitsSigned w16 x) (fits_y : FitsSigned w16 y) whe
 
   -- the product of the bits, modulo 2 ^ 32, has the bits of the product
   product_in_32_bits : cast_unsigned w32 x * cast_unsigned w32 y % 2 ^ 32 ≡ cast_unsigned w32 (x *ℤ y)
-  product_in_32_bits =
-      sym (of_z-to_z w32 _ (mod-lt _ (pow_pos 32)))
+  product_in_32_bits = sym (of_z-to_z w32 _ (mod-lt _ (pow_pos 32)))
       ∙ ap (cast_unsigned w32)
       (wrapping_mul_is w32 x y (sfits_widen tt fits_x) (sfits_widen tt fits_y)
       ∙ int_wrap_fits w32 (x *ℤ y) (fits_signed_from_abs w32 (x *ℤ y) (let small = product_is_small in omega arith)))
@@ -174,8 +171,7 @@ rounded_negative n false is small = let below = ltb-false 16384 (suc n) is in om
 -- both halves of the bits of a product together are the product / 2 ^ 15, rounded, clamped and wrapped
 by_product : (z : ℤ) → unsigned_abs z ≤ 2 ^ 30 → (unsigned_abs z ≤ 2 ^ 30 - 2 ^ 15) ⊎ (2 ^ 30 ≤ unsigned_abs z)
     → of_halves (cast_unsigned w32 z) ≡ wrap w16 (clamp_signed w16 (int_shr (z +ℤ pos 16384) 15))
-by_product (pos n) small (inl below) =
-    halves_rounded n (omega arith) (inl (omega arith)) ∙ omega arith
+by_product (pos n) small (inl below) = halves_rounded n (omega arith) (inl (omega arith)) ∙ omega arith
 by_product (pos n) small (inr above) = let most : n ≡ 2 ^ 30 = omega arith in rw most
 by_product (negsuc n) small _ =
     halves_rounded (2 ^ 32 - suc n) (omega arith) (inr (omega arith)) ∙ rounded_negative n (ltb 16384 (suc n)) refl small
@@ -221,7 +217,7 @@ uppers xs ys = zip2 (λ a b. a / 2 ^ b) (zip2 (λ a b. a * b % 2 ^ 32) xs ys) (r
 
 module _ (xs ys : List ℕ) (long_x : length xs ≡ 8) (long_y : length ys ≡ 8) where
   -- there are 8 upper halves, each that of the product in its place
-  uppers_are : AreItems 8 0 (λ i. get_or xs i 0 * get_or ys i 0 % 2 ^ 32 / 65536) (uppers xs ys)
+  pub uppers_are : AreItems 8 0 (λ i. get_or xs i 0 * get_or ys i 0 % 2 ^ 32 / 65536) (uppers xs ys)
   uppers_are =
       let products = zipped (λ a b. a * b % 2 ^ 32) (items 8 xs long_x) (items 8 ys long_y) in
       zipped (λ a b. a / 2 ^ b) products (repeated 8 16)
@@ -235,8 +231,3 @@ module _ (xs ys : List ℕ) (long_x : length xs ≡ 8) (long_y : length ys ≡ 8
       let within : i < 8 = omega arith in
       let is = uppers_are.are i within in
       record { fits = omega (arith, is, mod-lt (get_or xs i 0 * get_or ys i 0) (pow_pos 32)) })
-
-  -- an upper half that was cast to 16 bits is that of the product in its place
-  pub upper_halves_at : (i : ℕ) → i < 8
-      → get_or (map (λ x. x) (uppers xs ys)) i 0 ≡ get_or xs i 0 * get_or ys i 0 % 2 ^ 32 / 65536
-  upper_halves_at = let cast = mapped uppers_are (λ x. x) in cast.are

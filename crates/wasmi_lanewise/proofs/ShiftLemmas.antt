@@ -1,10 +1,9 @@
 -- Products of a word that keep each lane within its width, as shifts to the left do; lanes of words that are shifted,
 -- with the bits masked that would leave their lane; and the tables of the masks.
 use Rattle.std.proofs.Common.{◌≡◌, ℕ, zero, suc, ◌+◌, ◌-◌, ◌*◌, ◌/◌, ◌%◌, ◌^◌, ◌<◌, ◌≤◌, refl, sym, ap, ◌∙◌, arith, add-mul, mul-suc, mul-zero, mul_assoc, mul_right_comm, one-mul, zero-mul, le_refl, mod-lt, mod-eq_of_lt, lit<, le_of_eq, bit_and, List, [], ◌∷◌, map, replicate, length, get_or}
-use Rattle.wasmi_lanewise.proofs.Common.{length-replicate, Each1-replicate, mod-one, and_le_l, pow_pos, pow-add, mod-pow-add, and_mask, mul-mod_first, div-add-mod', div-mul-add, mod-mul-add, mul-le, shl_below, shr_le, pow_mono, Width, bits, unsigned, unary_of_lanes, field, lanes_in_word, in_each_lane, number_below, field_and, field_mod, lane_ends, lane_shr, EachLane, lane_of_each, u64x2_of, words_make_unary, some_bits, shl, shr_u}
+use Rattle.wasmi_lanewise.proofs.Common.{length-replicate, Each1-replicate, mod-one, and_le_l, pow_pos, pow-add, mod-pow-add, and_mask, mul-mod_first, div-add-mod', div-mul-add, mod-mul-add, mul-le, shl_below, shr_le, pow_mono, Width, bits, unsigned, unary_of_lanes, field, lanes_in_word, in_each_lane, number_below, field_and, field_mod, lane_ends, lane_shr, EachLane, lane_of_each, u64x2_of, words_make_unary, some_bits, shl, shr_u, vector_of}
 use Rattle.std.specs.List.{range_with_len}
 use Rattle.std.proofs.lemmas.List.FromFn.{get_or-map-range_with_len}
-use Rattle.wasmi_raw.specs.RawVal.{vector_of}
 
 -- ---- products
 
@@ -21,8 +20,7 @@ field_mul k w u c low =
 -- the bits below lane i, times c, stay below it, where the product of each lane fits
 pub scaled_low : (w c u i : ℕ) → ((j : ℕ) → j < i → field (w * j) w u * c < 2 ^ w) → (u % 2 ^ (w * i)) * c < 2 ^ (w * i)
 unfolding field
-scaled_low w c u zero each =
-    rw (mul-zero w) (omega (arith, ap (λ n. n * c) (mod-one u), zero-mul c))
+scaled_low w c u zero each = rw (mul-zero w) (omega (arith, ap (λ n. n * c) (mod-one u), zero-mul c))
 scaled_low w c u (suc i) each =
     let q : ℕ = 2 ^ (w * i) in
     let x : ℕ = u / q % 2 ^ w in

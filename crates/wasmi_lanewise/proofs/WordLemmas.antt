@@ -1,8 +1,7 @@
 -- A vector by its two words: bit by bit operations, the inversion and words of all ones, by which lanes are negated,
 -- and lanes of 64 bits, which are the words, and their products.
-use Rattle.std.proofs.Common.{◌≡◌, ℕ, zero, suc, ◌+◌, ◌-◌, ◌*◌, ◌/◌, ◌%◌, ◌^◌, ◌<◌, ◌≤◌, inl, inr, refl, sym, ap, ◌∙◌, arith, mod-eq_of_lt, ap₂, mul_comm, mul_assoc, zero-add}
-use Rattle.wasmi_lanewise.proofs.Common.{mod_self, add-mod_right, mul-div_cancel, pow_pos, div-add-mod', field_of, field, field_lt, field_not, field_of_zero, AreWords, InnerLane, u64x2_of, v128_not, w64, lane, unsigned, first_lanes, binary_of_lanes}
-use Rattle.wasmi_raw.specs.RawVal.{vector_of}
+use Rattle.std.proofs.Common.{◌≡◌, ℕ, zero, suc, ◌+◌, ◌-◌, ◌*◌, ◌/◌, ◌%◌, ◌^◌, ◌<◌, ◌≤◌, inl, inr, sym, ap, ◌∙◌, arith, mod-eq_of_lt, ap₂, mul_comm, mul_assoc, zero-add}
+use Rattle.wasmi_lanewise.proofs.Common.{mod_self, add-mod_right, mul-div_cancel, pow_pos, div-add-mod', field_of, field, field_lt, field_not, field_of_zero, AreWords, InnerLane, u64x2_of, v128_not, w64, lane, unsigned, first_lanes, binary_of_lanes, vector_of}
 
 -- a lane of the word of all ones
 pub ones_lane : (k w : ℕ) → k + w ≤ 64 → field k w (2 ^ 64 - 1) ≡ 2 ^ w - 1
@@ -44,22 +43,15 @@ negated_lane tops k w v r fits lane is =
     rw (field_not k w 64 r within fits, is, ones_lane k w within)
     (less_one_inverted (2 ^ w) (field k w v) (field_lt k w v))
 
--- an operation on numbers that is the same operation on their high bits and on their low bits
-pub record IsBitwise (op : ℕ → ℕ → ℕ) : Type 0 where
-  pub on_high : (a b k : ℕ) → op a b / 2 ^ k ≡ op (a / 2 ^ k) (b / 2 ^ k)
-  pub on_low : (a b k : ℕ) → op a b % 2 ^ k ≡ op (a % 2 ^ k) (b % 2 ^ k)
-
--- the vector of a bitwise operation on the words is the operation on the vectors
-pub on_words : {a b low_a high_a low_b high_b r : ℕ} (op : ℕ → ℕ → ℕ) → IsBitwise op → AreWords a low_a high_a
-    → AreWords b low_b high_b → r ≡ vector_of (op low_a low_b) (op high_a high_b) → r ≡ op a b
-on_words {a} {b} op bitwise of_a of_b is =
-    rw (is, of_a.high_is, of_b.high_is, of_a.low_is, of_b.low_is, ← bitwise.on_high a b 64, ← bitwise.on_low a b 64)
+-- the vector of an operation on the words, where it is the same on high bits and on low bits, is the operation on the
+-- vectors
+pub on_words : {a b low_a high_a low_b high_b r : ℕ} (op : ℕ → ℕ → ℕ)
+    → ((a b k : ℕ) → op a b / 2 ^ k ≡ op (a / 2 ^ k) (b / 2 ^ k))
+    → ((a b k : ℕ) → op a b % 2 ^ k ≡ op (a % 2 ^ k) (b % 2 ^ k)) → AreWords a low_a high_a → AreWords b low_b high_b
+    → r ≡ vector_of (op low_a low_b) (op high_a high_b) → r ≡ op a b
+on_words {a} {b} op on_high on_low of_a of_b is =
+    rw (is, of_a.high_is, of_b.high_is, of_a.low_is, of_b.low_is, ← on_high a b 64, ← on_low a b 64)
     (div-add-mod' (op a b) (2 ^ 64))
-
--- a bitwise operation on two numbers, by their upper bits and their lower 64
-pub by_words : (op : ℕ → ℕ → ℕ) → IsBitwise op → (a b : ℕ)
-    → op a b ≡ vector_of (op (a % 2 ^ 64) (b % 2 ^ 64)) (op (a / 2 ^ 64) (b / 2 ^ 64))
-by_words op bitwise a b = sym (on_words op bitwise (u64x2_of refl refl) (u64x2_of refl refl) refl)
 
 -- a word that is the row of two words
 pub record IsWordOf (row : ℕ → ℕ → ℕ) (a b word : ℕ) : Type 0 where

@@ -19,7 +19,7 @@ pub use Rattle.wasmi_machine.specs.Steps.{Run, BytesRead, BytesStored, BytesWrit
 pub use Rattle.wasmi_machine.specs.TableEffects.{SetsElementAt, OfReference, OfSegment, OfTable, Source, write_of, ReservesElementsAt}
 pub use Rattle.wasmi_machine.specs.ValueEffects.{DropsDataAt, DropsItemsAt, SetsGlobalAt, CreatesSegment, IsSegmentOf}
 pub use Rattle.wasmi_machine.specs.declared.{calls.Call.Call, calls.Reply.Reply, slots.Slot.Slot}
-pub use Rattle.wasmi_machine.specs.declared.calls.Call.TheVariants.{SetFuel, GetFuel, Read, NewMemory, NewLentMemory, GrowMemory, NewTable, GrowTable, Extract, GetElement, GetGlobal, GetRegister, Load, NewData, NewGlobal, NewSegment, Test}
+pub use Rattle.wasmi_machine.specs.declared.calls.Call.TheVariants.{SetFuel, GetFuel, Read, NewMemory, NewLentMemory, GrowMemory, GrowTable, Extract, GetElement, GetGlobal, GetRegister, Load, NewData, NewGlobal, NewSegment, Test}
 pub use Rattle.wasmi_machine.specs.declared.calls.Reply.TheVariants.{Done, NoSuch, Trap, Memory}
 pub use Rattle.wasmi_machine.specs.declared.slots.Slot.TheVariants.{Gone, Live}
 pub use Rattle.wasmi_meter.specs.Attempt.{MeteredValue, with_value, AttemptOutcome, Met, answer_of, value_after, Failed, Follows, IsFirstCause, MayEnd, Request, covers, optional_due, outcome_charge, Attempt, Unasked, Denied, alone}

@@ -61,8 +61,7 @@ puts_swap : (location other : Location) (x : Content location) (y : Content othe
 puts_swap (MemoryAt k) (MemoryAt j) x y s apart = ap (with_memories s) (twice MemoryAt s.memories k j x y apart)
 puts_swap (TableAt k) (TableAt j) x y s apart = ap (with_tables s) (twice TableAt s.tables k j x y apart)
 puts_swap (SegmentAt k) (SegmentAt j) x y s apart = ap (with_segments s) (twice SegmentAt s.segments k j x y apart)
-puts_swap (DataAt k) (DataAt j) x y s apart =
-    ap (with_data_segments s) (twice DataAt s.data_segments k j x y apart)
+puts_swap (DataAt k) (DataAt j) x y s apart = ap (with_data_segments s) (twice DataAt s.data_segments k j x y apart)
 puts_swap (GlobalAt k) (GlobalAt j) x y s apart = ap (with_globals s) (twice GlobalAt s.globals k j x y apart)
 puts_swap (RegisterAt k) (RegisterAt j) x y s apart = ap (with_registers s) (twice RegisterAt s.registers k j x y apart)
 puts_swap location other x y s apart = refl
@@ -119,11 +118,7 @@ module _ {X Y : Type 0} (k : ℕ) (look : Option Y → Option X) (back : X → Y
 drop_moves : {X : Type 0} (count : X → ℕ) (k : ℕ) (slots : List (Slot X)) (reply : Reply) (slots' : List (Slot X))
     → DropsAt count k slots reply slots' → ListMoves k (DropsAt count k) slots reply slots'
 drop_moves count k slots reply slots' drops = on_found (live_at slots k) _ _ drops
-    (λ is h. record {
-      put = None;
-      after = h.1;
-      too = λ ys same. rw (ap (option_and_then live_value) same ∙ is) (h.0, refl);
-    })
+    (λ e h. record { put = None; after = h.1; too = λ t at. rw (ap (option_and_then live_value) at ∙ e) (h.0, refl) })
     (λ x is h. record {
       put = Some (Gone (count x));
       after = h.1;
@@ -198,34 +193,31 @@ IsLocalChange (DataMade bytes) = ⊥
 IsLocalChange (GlobalMade global) = ⊥
 IsLocalChange change = Unit {0}
 
--- a change that makes nothing goes by what is at its index
-change_moves : (s : State) (reply : Reply) (s' : State) (change : Change) → IsLocalChange change
-    → HasChange change s reply s' → Moves (changed_by change) (λ t t'. HasChange change t reply t') s s'
-change_moves s reply s' (BytesWritten k offset bytes) local c =
-    part_moves (MemoryAt k) (WritesMemoryAt k offset bytes) s reply s' c
-    (found_moves k (option_and_then live_value) Live _ s.memories reply c.part c.effect)
-change_moves s reply s' (BytesStored k a None) local c = part_moves (MemoryAt k) (StoresVectorAt k a None) s reply s' c
-    (record { put = None; after = c.effect.1; too = λ ys same. (c.effect.0, refl) })
-change_moves s reply s' (BytesStored k a (Some stored)) local c =
-    part_moves (MemoryAt k) (StoresVectorAt k a (Some stored)) s reply s' c
-    (found_moves k (option_and_then live_value) Live _ s.memories reply c.part c.effect)
-change_moves s reply s' (RegisterSet dst given) local c =
-    part_moves (RegisterAt dst) (SetsRegister dst given) s reply s' c
-    (register_moves dst s.registers reply c.part given (slice_get s.registers dst) refl c.effect)
-change_moves s reply s' (MemoryDropped k) local c = part_moves (MemoryAt k) (DropsAt byte_count k) s reply s' c
-    (drop_moves byte_count k s.memories reply c.part c.effect)
-change_moves s reply s' (TableDropped k) local c = part_moves (TableAt k) (DropsAt size_of k) s reply s' c
-    (drop_moves size_of k s.tables reply c.part c.effect)
-change_moves s reply s' (ElementSet k index value) local c =
-    part_moves (TableAt k) (SetsElementAt k index value) s reply s' c
-    (found_moves k (option_and_then live_value) Live _ s.tables reply c.part c.effect)
-change_moves s reply s' (ItemsDropped k) local c = part_moves (SegmentAt k) (DropsItemsAt k) s reply s' c
-    (found_moves k (λ x. x) (λ x. x) _ s.segments reply c.part c.effect)
-change_moves s reply s' (DataDropped k) local c = part_moves (DataAt k) (DropsDataAt k) s reply s' c
-    (found_moves k (λ x. x) (λ x. x) _ s.data_segments reply c.part c.effect)
-change_moves s reply s' (GlobalSet k value) local c = part_moves (GlobalAt k) (SetsGlobalAt k value) s reply s' c
-    (found_moves k (λ x. x) (λ x. x) _ s.globals reply c.part c.effect)
-change_moves s reply s' change local c = absurd local
+module _ (s : State) (reply : Reply) (s' : State) where
+  -- a change that makes nothing goes by what is at its index
+  change_moves : (change : Change) → IsLocalChange change → HasChange change s reply s'
+      → Moves (changed_by change) (λ t t'. HasChange change t reply t') s s'
+  change_moves (BytesWritten k offset bytes) local c = part_moves (MemoryAt k) (WritesMemoryAt k offset bytes) _ _ _ c
+      (found_moves k (option_and_then live_value) Live _ _ _ _ c.effect)
+  change_moves (BytesStored k a None) local c = part_moves (MemoryAt k) (StoresVectorAt k a None) _ _ _ c
+      (record { put = None; after = c.effect.1; too = λ ys same. (c.effect.0, refl) })
+  change_moves (BytesStored k a (Some stored)) local c = part_moves (MemoryAt k) (StoresVectorAt k a (Some stored))
+      _ _ _ c (found_moves k (option_and_then live_value) Live _ _ _ _ c.effect)
+  change_moves (RegisterSet dst given) local c = part_moves (RegisterAt dst) (SetsRegister dst given) _ _ _ c
+      (register_moves dst s.registers reply c.part given (slice_get s.registers dst) refl c.effect)
+  change_moves (MemoryDropped k) local c =
+      part_moves (MemoryAt k) (DropsAt byte_count k) _ _ _ c (drop_moves byte_count k _ _ _ c.effect)
+  change_moves (TableDropped k) local c =
+      part_moves (TableAt k) (DropsAt size_of k) _ _ _ c (drop_moves size_of k _ _ _ c.effect)
+  change_moves (ElementSet k index value) local c = part_moves (TableAt k) (SetsElementAt k index value) _ _ _ c
+      (found_moves k (option_and_then live_value) Live _ _ _ _ c.effect)
+  change_moves (ItemsDropped k) local c =
+      part_moves (SegmentAt k) (DropsItemsAt k) _ _ _ c (found_moves k (λ x. x) (λ x. x) _ _ _ _ c.effect)
+  change_moves (DataDropped k) local c =
+      part_moves (DataAt k) (DropsDataAt k) _ _ _ c (found_moves k (λ x. x) (λ x. x) _ _ _ _ c.effect)
+  change_moves (GlobalSet k value) local c = part_moves (GlobalAt k) (SetsGlobalAt k value) _ _ _ c
+      (found_moves k (λ x. x) (λ x. x) _ _ _ _ c.effect)
+  change_moves change local c = absurd local
 
 -- an effect of a local call: it acts on what is at indices alone
 abbrev IsLocalEffect : Effect → Type 0
@@ -263,11 +255,7 @@ module _ {S : Type 0} (rules : Rules S) (w : World S) (turn : Turn) (w' : World 
     edit = Keep;
     here = tt;
     after = step.after;
-    too = λ u same reads. record {
-      free = step.free;
-      effect = rw reads.0 step.effect;
-      after = refl;
-    };
+    too = λ u same reads. record { free = step.free; effect = rw reads.0 step.effect; after = refl };
   }
   effect_moves (Changed change) local step =
       let moves = change_moves w.state turn.reply step.machine change local step.effect in
@@ -293,28 +281,12 @@ module _ (s t : State) where
   -- the effect of a local call goes by what the call reads
   same_effect : (c : Call) → IsLocal c → SameAll (read_locations c) s t → effect_of t c ≡ effect_of s c
   same_effect call.GetFuel local same = absurd local
-  same_effect (call.Load op k ptr offset) local same = rw same.0
-  same_effect (call.GetElement k index) local same = rw same.0
   same_effect (call.CopyMemory k dst j src len) local same = absurd local
   same_effect (call.InitMemory k j dst src len) local same = absurd local
   same_effect (call.InitTable k j dst src len) local same = absurd local
   same_effect (call.CopyTable k dst j src len) local same = absurd local
-  same_effect (call.GetGlobal k) local same = rw same.0
-  same_effect (call.GetRegister a) local same = rw same.0
-  same_effect (call.Make op dst a) local same = rw same.0
-  same_effect (call.Unary op dst a) local same = rw same.0
-  same_effect (call.Binary op dst a b) local same = rw (same.0, same.1.0)
-  same_effect (call.Ternary op dst a b c) local same = rw (same.0, same.1.0, same.1.1.0)
-  same_effect (call.Shift op dst a amount) local same = rw same.0
-  same_effect (call.Test op a) local same = rw same.0
-  same_effect (call.Extract op a) local same = rw same.0
   same_effect (call.Replace op dst a item) local same = rw (same.0, same.1.0)
-  same_effect (call.Shuffle dst a b lanes) local same = rw (same.0, same.1.0)
-  same_effect (call.VectorLoad op dst k ptr offset) local same = rw same.0
-  same_effect (call.LoadLane op dst a k ptr offset) local same = rw (same.0, same.1.0)
-  same_effect (call.VectorStore a k ptr offset) local same = rw same.0
-  same_effect (call.StoreLane op a k ptr offset) local same = rw same.0
-  same_effect c local same = refl
+  same_effect c local same = cc
 
 module _ {S : Type 0} (rules : Rules S) where
   -- a turn of a local call goes by what is at indices

@@ -2,7 +2,7 @@
 -- found before the limiter is asked, since no later cause is one. The limiter, the meter and the spare region stay,
 -- also where a call that lets nothing grow is refused.
 use Rattle.std.proofs.Common.{◌≡◌, ◌∙◌, ℕ, Bool, Option, Some, None, Result, Ok, Err, List, [], ◌∷◌, length, map, inl, inr, refl, sym, ap, subst}
-use Rattle.wasmi_laws.proofs.Common.{lacks_owned, All-head, All-tail, none-some, if◌then◌else◌, RefType, MemoryError, TableError, Attempt, AttemptOutcome, Unasked, Denied, Met, Failed, IsFirstCause, MeteredValue, Request, alone, answer_of, covers, optional_due, with_value, Failure, MemoryFailure, TableFailure, NoticeAnswer, Rules, Meter, LacksMemory, Lent, Owned, Room, Grows, Growth, Makes, metered_value, GrowsMemoryCharging, MakesMemory, MemoryValue, new_memory, MemoryTypeValue, GrowsTableCharging, TableValue, new_table, TableTypeValue, same_type, on_test, Call, NewMemory, NewLentMemory, GrowMemory, NewTable, GrowTable, Reply, Slot, Live, IsOtherFailure, ActsAt, AddsEntry, Creates, reply_of, CreatesLent, spare_after, MemoryPart, State, live_at, memory_part, IsRefusal, Turn, World, Effect, LentMemoryMade, MemoryGrown, MemoryMade, RangeWritten, Step, TableGrown, TableMade, HasEffect, effect_of, Creation, on_live, range_holds, IsPlainRefusal, OtherRefusalsChangeNothing, PlainRefusalsChangeNothing, PlainlyRefusedRunsChangeNothing, memory_growth, table_growth, outcome_of}
+use Rattle.wasmi_laws.proofs.Common.{lacks_owned, All-head, All-tail, none-some, if◌then◌else◌, RefType, MemoryError, TableError, Attempt, AttemptOutcome, Unasked, Denied, Met, Failed, IsFirstCause, MeteredValue, Request, alone, answer_of, covers, optional_due, with_value, Failure, MemoryFailure, TableFailure, NoticeAnswer, Rules, Meter, LacksMemory, Lent, Owned, Room, Grows, Growth, Makes, metered_value, GrowsMemoryCharging, MakesMemory, MemoryValue, new_memory, MemoryTypeValue, GrowsTableCharging, TableValue, new_table, TableTypeValue, same_type, on_test, Call, NewMemory, NewLentMemory, Reply, Slot, Live, IsOtherFailure, ActsAt, AddsEntry, Creates, reply_of, CreatesLent, spare_after, MemoryPart, State, live_at, memory_part, IsRefusal, Turn, World, Effect, LentMemoryMade, MemoryGrown, MemoryMade, RangeWritten, Step, TableGrown, TableMade, HasEffect, effect_of, Creation, on_live, range_holds, IsPlainRefusal, OtherRefusalsChangeNothing, PlainRefusalsChangeNothing, PlainlyRefusedRunsChangeNothing, memory_growth, table_growth, outcome_of}
 use Rattle.wasmi_meter.specs.declared.error.MemoryError.TheVariants as memory_error
 use Rattle.wasmi_meter.specs.declared.error.TableError.TheVariants as table_error
 use Rattle.wasmi_store.specs.Memory as memory
@@ -224,18 +224,13 @@ want_loud failure (Ok _) wants plain = wants tt
 -- a world whose parts are all the same
 same_world : {S : Type 0} (rules : Rules S) (w : World S) (turn : Turn) (w' : World S) → Keeps rules w turn w'
     → w'.state.meter ≡ w.state.meter → w'.state.spare ≡ w.state.spare → w'.limiter ≡ w.limiter → w' ≡ w
-same_world rules w turn w' keeps meter spare limiter =
-    ap (λ (s : State). record w' { state = s }) keeps.contents
+same_world rules w turn w' keeps meter spare limiter = ap (λ (s : State). record w' { state = s }) keeps.contents
     ∙ (λ i. record { state = record w.state { meter = meter i; spare = spare i }; limiter = limiter i })
 
 -- a call that lets nothing grow asks nothing
 no_question : (s : State) (call : Call) → place_of call ≡ Nowhere → question_of s call ≡ None
-no_question s (NewMemory ty) is = absurd cc
-no_question s (NewLentMemory ty) is = absurd cc
-no_question s (GrowMemory k pages) is = absurd cc
-no_question s (NewTable ty init) is = absurd cc
-no_question s (GrowTable k n init) is = absurd cc
-no_question s call is = refl
+no_question s (NewMemory ty) is = cc
+no_question s call is = cc
 
 -- a call that lets nothing grow keeps the spare region where it is refused
 other_spare : (s s' : State) (call : Call) (reply : Reply) → place_of call ≡ Nowhere → KeepsSpare call reply s s'

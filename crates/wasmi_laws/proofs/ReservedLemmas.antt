@@ -1,6 +1,6 @@
 -- What is reserved is enough: no reply to a call that needs no other memory says out of memory, as no cause of its
 -- attempts, writes, reads and changes is lack of memory. A call takes its slot alone, and what is reserved stays so.
-use Rattle.wasmi_laws.proofs.Common.{nat_tests, append-nil, All-cons, All-head, All-nil, All-tail, All-weaker, option_map, option_map_or, All, MatchOption, count_by, if◌then◌else◌, is_some, max, nat_eq, nat_le, slice_get, slice_set, overwrite, TrapCode, RefType, RawVal, TypedRawRef, AttemptOutcome, Denied, Failed, MayEnd, Met, MeteredValue, Request, Unasked, answer_of, covers, with_value, Rules, Meter, MemoryError, TableError, on_test, LacksMemory, Lent, Owned, Room, GrowsMemoryCharging, MakesMemory, MemoryTypeValue, MemoryValue, WritesMemory, new_memory, pages_of, GrowsTableCharging, SetsTable, TableValue, elements_write, is_within_maximum, same_type, size_of, with_elements_reserved, EndsBy, IsRefusedFor, MeteredWrite, copied, filled, write_due, both_live, on_live, on_live_too, source_writes, IsNotOutOfMemory, AddsEntry, AddsItem, ChangesFound, Creates, MeteredSlots, WritesRangeAt, reply_of, ByteSource, ReadsBytes, byte_write_of, SetsAt, vector_at, State, Turn, World, live_at, with_reserved, with_tables, BytesRead, BytesStored, BytesWritten, Change, Changed, DataDropped, DataMade, Effect, ElementSet, FuelSet, GlobalMade, GlobalSet, HasChange, HasEffect, IsRunOf, ItemsDropped, LacksSlot, LentMemoryMade, MemoryDropped, MemoryGrown, MemoryMade, MemoryWritten, RangeWritten, RegisterSet, Run, SegmentMade, Step, TableDropped, TableGrown, TableMade, TableWritten, Told, effect_of, ReservesElementsAt, OfReference, OfSegment, OfTable, Source, write_of, CreatesSegment, IsSegmentOf, Call, Extract, GetElement, GetFuel, GetGlobal, GetRegister, GrowMemory, GrowTable, Load, NewData, NewGlobal, NewLentMemory, NewMemory, NewSegment, Test, Reply, Slot, Live, DataAt, GlobalAt, Location, MemoryAt, SegmentAt, TableAt, content_at, HasElements, HasElementsAt, HasSlot, HasSlots, SlotKind, Memories, Segments, DataSegments, Globals, made_of, slots_for, takes_slot, IsReservedToMaximum, IsLent, IsLentRoom, IsReservedFor, IsReservedTable, NeedsNoMemory, NeedsOnlySlot, ReservedCallsSucceed, ReservedRunsSucceed, SlotsSuffice, IsInRegion, outcome_of}
+use Rattle.wasmi_laws.proofs.Common.{nat_tests, append-nil, All-cons, All-head, All-nil, All-tail, All-weaker, option_map, option_map_or, All, MatchOption, count_by, if◌then◌else◌, is_some, max, nat_eq, nat_le, slice_get, overwrite, TrapCode, RefType, RawVal, TypedRawRef, AttemptOutcome, Denied, Failed, MayEnd, Met, MeteredValue, Request, Unasked, answer_of, covers, with_value, Rules, Meter, MemoryError, TableError, on_test, LacksMemory, Lent, Owned, Room, GrowsMemoryCharging, MakesMemory, MemoryTypeValue, MemoryValue, WritesMemory, new_memory, pages_of, GrowsTableCharging, SetsTable, TableValue, elements_write, is_within_maximum, same_type, size_of, with_elements_reserved, EndsBy, IsRefusedFor, MeteredWrite, copied, filled, write_due, both_live, on_live, on_live_too, source_writes, IsNotOutOfMemory, AddsEntry, AddsItem, Creates, MeteredSlots, WritesRangeAt, reply_of, ByteSource, ReadsBytes, byte_write_of, SetsAt, vector_at, State, Turn, World, live_at, with_reserved, with_tables, BytesRead, BytesStored, BytesWritten, Change, Changed, DataDropped, DataMade, Effect, ElementSet, FuelSet, GlobalMade, GlobalSet, HasChange, HasEffect, IsRunOf, ItemsDropped, LacksSlot, LentMemoryMade, MemoryDropped, MemoryGrown, MemoryMade, MemoryWritten, RangeWritten, RegisterSet, Run, SegmentMade, Step, TableDropped, TableGrown, TableMade, TableWritten, Told, effect_of, ReservesElementsAt, OfReference, OfSegment, OfTable, Source, write_of, CreatesSegment, IsSegmentOf, Call, Extract, GetElement, GetFuel, GetGlobal, GetRegister, GrowMemory, GrowTable, Load, NewData, NewGlobal, NewLentMemory, NewMemory, NewSegment, Test, Reply, Slot, Live, DataAt, GlobalAt, Location, MemoryAt, SegmentAt, TableAt, content_at, HasElements, HasElementsAt, HasSlot, HasSlots, SlotKind, Memories, Segments, DataSegments, Globals, made_of, slots_for, takes_slot, IsReservedToMaximum, IsLent, IsLentRoom, IsReservedFor, IsReservedTable, NeedsNoMemory, NeedsOnlySlot, ReservedCallsSucceed, ReservedRunsSucceed, SlotsSuffice, IsInRegion, outcome_of}
 use Rattle.std.proofs.Common.{◌++◌, Bool, Err, List, None, Ok, Option, Result, Some, [], ap, arith, cond, drop, false, inl, inr, length, map, refl, subst, sym, take, true, ℕ, ◌+◌, ◌≤◌, ◌∷◌, ◌≡◌, ◌⊎◌, ⊎_elim}
 use Rattle.std.proofs.lemmas.List.Sums.{sum_by-cons}
 use Rattle.wasmi_ops.specs.LoadStoreOps.{loaded_raw}
@@ -224,13 +224,6 @@ segment_told ty items segments reply segments' none has (inr (result, fits, adds
     entry_told (λ x. x) replied.Segment result segments reply segments'
     (segment_error_told ty items result none fits) adds
 
--- the reply to a change of what was found
-found_told : {X A : Type 0} (found : Option X) (put : X → A) (part : A) (reply : Reply) (part' : A)
-    (Change : X → X → Type 0) → ((x x' : X) → Change x x' → IsNotOutOfMemory reply)
-    → ChangesFound found put part reply part' Change → IsNotOutOfMemory reply
-found_told found put part reply part' Change told changes = on_live found _ _ changes
-    (λ missing. rw missing.0 tt) (λ x is h. told x h.0 h.1)
-
 -- the error of a write to a memory isn't lack of memory
 write_error_told : (x : MemoryValue) (offset : ℕ) (source : List ℕ) (result : Result (Unit {0}) MemoryError)
     (x' : MemoryValue) → WritesMemory x offset source result x'
@@ -263,39 +256,33 @@ ChangeHas s change = Unit {0}
 -- the reply to each change
 change_told : (s : State) (reply : Reply) (s' : State) (change : Change) → ChangeHas s change
     → HasChange change s reply s' → IsNotOutOfMemory reply
-change_told s reply s' (BytesWritten k offset bytes) has c =
-    found_told (live_at s.memories k) (λ x. slice_set s.memories k (Live x)) s.memories reply c.part _
-    (λ x x' h. rw h.2 (write_error_told x offset bytes h.0 x' h.1)) c.effect
+change_told s reply s' (BytesWritten k offset bytes) has c = on_live (live_at s.memories k) _ _ c.effect
+    (λ missing. rw missing.0 tt) (λ x is h. rw h.1.2 (write_error_told x offset bytes h.1.0 h.0 h.1.1))
 change_told s reply s' (BytesStored k a None) has c = rw c.effect.0 tt
-change_told s reply s' (BytesStored k a (Some stored)) has c =
-    found_told (live_at s.memories k) (λ x. slice_set s.memories k (Live x)) s.memories reply c.part _
-    (λ x x' h. rw h.2 (result_told h.0 (λ _. replied.Done) replied.Trap (λ done. tt) (λ trap is. tt))) c.effect
+change_told s reply s' (BytesStored k a (Some stored)) has c = on_live (live_at s.memories k) _ _ c.effect
+    (λ missing. rw missing.0 tt)
+    (λ x is h. rw h.1.2 (result_told h.1.0 (λ _. replied.Done) replied.Trap (λ done. tt) (λ trap is. tt)))
 change_told s reply s' (RegisterSet dst given) has c =
     takes_told given (slice_get s.registers dst) dst s.registers reply c.part c.effect
 change_told s reply s' (MemoryDropped k) has c = on_live (live_at s.memories k) _ _ c.effect
     (λ missing. rw missing.0 tt) (λ x found h. rw h.0 tt)
 change_told s reply s' (TableDropped k) has c = on_live (live_at s.tables k) _ _ c.effect
     (λ missing. rw missing.0 tt) (λ x found h. rw h.0 tt)
-change_told s reply s' (ElementSet k index value) has c =
-    found_told (live_at s.tables k) (λ x. slice_set s.tables k (Live x)) s.tables reply c.part _
-    (λ x x' h. rw h.2 (set_told index value x h.0 x' h.1)) c.effect
+change_told s reply s' (ElementSet k index value) has c = on_live (live_at s.tables k) _ _ c.effect
+    (λ missing. rw missing.0 tt) (λ x is h. rw h.1.2 (set_told index value x h.1.0 h.0 h.1.1))
 change_told s reply s' (SegmentMade ty items) has c =
     segment_told ty items s.segments reply c.part has.0 (λ lacks. omega (arith, has.1, lacks)) c.effect
-change_told s reply s' (ItemsDropped k) has c =
-    found_told (slice_get s.segments k) (slice_set s.segments k) s.segments reply c.part _
-    (λ x x' h. rw h.0 tt) c.effect
-change_told s reply s' (DataMade bytes) has c =
-    added_told bytes s.data_segments reply c.part
+change_told s reply s' (ItemsDropped k) has c = on_live (slice_get s.segments k) _ _ c.effect
+    (λ missing. rw missing.0 tt) (λ x is h. rw h.1.0 tt)
+change_told s reply s' (DataMade bytes) has c = added_told bytes s.data_segments reply c.part
     (⊎_elim (λ some. omega (arith, ap length has.0, some)) (λ lacks. omega (arith, has.1, lacks))) c.effect
-change_told s reply s' (DataDropped k) has c =
-    found_told (slice_get s.data_segments k) (slice_set s.data_segments k) s.data_segments reply c.part _
-    (λ x x' h. rw h.0 tt) c.effect
+change_told s reply s' (DataDropped k) has c = on_live (slice_get s.data_segments k) _ _ c.effect
+    (λ missing. rw missing.0 tt) (λ x is h. rw h.1.0 tt)
 change_told s reply s' (GlobalMade global) has c =
     added_told global s.globals reply c.part (λ lacks. omega (arith, has, lacks)) c.effect
-change_told s reply s' (GlobalSet k value) has c =
-    found_told (slice_get s.globals k) (slice_set s.globals k) s.globals reply c.part _
-    (λ x x' h. rw h.2 (result_told h.0 (λ _. replied.Done) replied.Global (λ done. tt) (λ error is. tt)))
-    c.effect
+change_told s reply s' (GlobalSet k value) has c = on_live (slice_get s.globals k) _ _ c.effect
+    (λ missing. rw missing.0 tt)
+    (λ x is h. rw h.1.2 (result_told h.1.0 (λ _. replied.Done) replied.Global (λ done. tt) (λ error is. tt)))
 
 -- ---- effects
 
@@ -344,8 +331,7 @@ module _ {S : Type 0} (rules : Rules S) (w : World S) (turn : Turn) (w' : World 
   table_growth_told : (n : ℕ) (init : TypedRawRef) (s s' : MeteredValue TableValue S) → (n ≡ 0) ⊎ HasElements n s.value
       → (result : Result ℕ TableError) (charge : ℕ) → GrowsTableCharging rules n init s result charge s'
       → IsNotOutOfMemory (reply_of replied.Number replied.Table result)
-  table_growth_told n init s s' has result charge grows =
-      on_test (same_type s.value.ty.element init.ty) _ _ grows
+  table_growth_told n init s s' has result charge grows = on_test (same_type s.value.ty.element init.ty) _ _ grows
       (⊎_elim (λ grown. rw grown.answered tt)
       (λ grown. rw grown.answered (⊎_elim (λ none. absurd (omega (arith, none, grown.some)))
       (λ there. attempt_told replied.Table (table.growth_of s.value n init.raw)
@@ -522,8 +508,7 @@ module _ {S : Type 0} (rules : Rules S) where
 
   -- no reply to calls for which enough was reserved says out of memory
   pub reserved_runs_succeed : ReservedRunsSucceed rules
-  reserved_runs_succeed calls w replies w' r ran =
-      (front_told [] calls w replies w' (rw (append-nil calls) r) ran).0
+  reserved_runs_succeed calls w replies w' r ran = (front_told [] calls w replies w' (rw (append-nil calls) r) ran).0
 
 -- ---- what is reserved beside runs
 

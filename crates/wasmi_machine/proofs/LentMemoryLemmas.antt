@@ -1,4 +1,5 @@
--- What holds of memories in lent regions as of memories of their own: creations, growths, writes, effects and runs.
+-- What holds of memories in lent regions as of memories of their own: creations, growths, writes, effects and runs; and
+-- a growth there that has all it needs succeeds or is denied.
 use Rattle.std.proofs.Common.{Err, List, None, Ok, Option, Result, Some, [], ap, arith, inl, inr, length, map, refl, subst, sym, true, ℕ, ◌*◌, ◌+◌, ◌∙◌, ◌∷◌, ◌≡◌, ◌≤◌, ◌⊎◌}
 use Rattle.wasmi_machine.proofs.Common.{nat_tests, length-map, map-set, map_push, none-some, slice_get-map, option_and_then, option_map, slice_get, slice_set, ByteSource, OfBytes, WritesMemoryAt, byte_write_of, bytes_appended, bytes_in, load_reply, StoresVectorAt, lane_loaded, vector_at, vector_loaded, AddsEntry, ChangesAt, Creates, IfNoRoom, IsNoSuch, MeteredSlots, MatchOption, WritesAt, WritesRangeAt, Run, BytesRead, BytesStored, BytesWritten, Change, Changed, Effect, FuelSet, LacksSlot, LentMemoryMade, MemoryDropped, MemoryGrown, MemoryMade, RangeWritten, RegisterSet, Step, TableGrown, MemoryWritten, TableWritten, TableMade, HasChange, HasEffect, Told, effect_of, State, live_at, live_value, byte_count, Turn, World, Call, CopyMemory, Load, LoadLane, NewLentMemory, NewMemory, VectorLoad, Reply, Slot, Gone, Live, AttemptOutcome, Met, MeteredValue, optional_due, answer_of, covers, with_value, Rules, Meter, MemoryError, on_test_too, grows_too, memory_growth, IsDenied, metered, metered_value, LacksMemory, Lent, Owned, Room, fits_room, GrowsMemory, GrowsMemoryCharging, MakesMemory, MemoryValue, MemoryWrite, WritesMemory, bytes_write, new_memory, pages_of, MemoryTypeValue, in_bounds, minimum_bytes, page_bytes, outcome_of}
 use Rattle.std.specs.Result.{result_map_both}

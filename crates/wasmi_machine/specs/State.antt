@@ -1,5 +1,6 @@
--- The state of a machine and its slots (core specification, the store), a world of it with a limiter, a turn with its
--- outcome, refusals, the sizes and totals of a state, and when states and calls are valid.
+-- The state of a machine, its slots and how many are reserved (core specification, the store), a new state, a world of
+-- it with a limiter, a turn with its outcome, refusals, the sizes and totals of a state, and when states and calls are
+-- valid.
 use Rattle.std.specs.Prelude.{ℕ, ◌+◌, List, [], Option, Some, None, slice_get, replicate, ◌≡◌, length, map, max, sum, ◌≤◌, All, option_and_then}
 use Rattle.wasmi_raw.specs.declared.raw.RawVal.{RawVal}
 use Rattle.wasmi_raw.specs.RawVal.{raw_of}
@@ -46,7 +47,7 @@ pub record State : Type 0 where
   pub spare : Option (List ℕ)
   pub reserved : SlotCounts
 
--- no slot of any kind
+-- what a new state has reserved: no slot of any kind
 abbrev pub no_slots : SlotCounts
 no_slots = record { memories = 0; tables = 0; segments = 0; data_segments = 0; globals = 0 }
 

@@ -407,7 +407,7 @@ impl<'a, L: ResourceLimiter> LimiterRef<&'a mut L> {
     }
 }
 
-/// A reference to a limiter, or none, is a limiter.
+/// A reference to a limiter, or none, is a limiter: its methods call those of the same names above.
 impl<'a, L: ResourceLimiter> ResourceLimiter for LimiterRef<&'a mut L> {
     ghost rules = { lent_rules L.rules };
 

@@ -104,7 +104,6 @@ pub fn grow<L: ResourceLimiter>(
 
 /// Grows a memory as [`grow`] does, into bytes of the region that are zeros already, as fresh pages
 /// of the system are. It writes no byte: where they aren't zeros, the memory has what stands there.
-#[tactic(auto, using(std::proofs::lemmas::Bool::Decides::nat_tests))]
 pub fn grow_zeroed<L: ResourceLimiter>(
     ty: MemoryType,
     size: &mut usize,

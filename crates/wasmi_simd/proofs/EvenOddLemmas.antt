@@ -1,12 +1,13 @@
 -- The even and the odd lanes of a vector, as std::simd takes each out of a lane of twice the width, their sums, and the
 -- sums of their products.
 use Rattle.std.proofs.Common.{ℕ, ℤ, pos, negsuc, suc, ◌+◌, ◌-◌, ◌*◌, ◌/◌, ◌%◌, ◌^◌, ◌<◌, ◌≡◌, List, length, get_or, map, replicate, ◌∙◌, ap, ap₂, arith, suc-mul, add-mul, mul_assoc, le_refl, inl, inr, Bool, true, false, ltb, bit_and, ◌+ℤ◌, ◌*ℤ◌, mod-eq_of_lt, sym, mul_comm}
-use Rattle.wasmi_simd.proofs.Common.{cases_lt, pow_pos, and_mask, div-mul-add, mod-mul-add, pow-add, mul-le, shr_below, shl_below, cast_unsigned, cast_signed, digits_l, number_l, zip2, Width, bits, signed, wrap, lane, unsigned, lane_below, lanes_make_vector, IsWidening, hbits, sel, pairwise_unary, pairwise_binary}
+use Rattle.wasmi_simd.proofs.Common.{cases_lt, pow_pos, and_mask, div-mul-add, mod-mul-add, pow-add, mul-le, shr_below, shl_below, cast_unsigned, cast_signed, zip2, Width, bits, signed, wrap, lane, unsigned, lane_below, lanes_make_vector, IsWidening, hbits, sel, pairwise_unary, pairwise_binary}
 use Rattle.std.specs.Int.Signed.{shr_z}
 use Rattle.wasmi_lanewise.proofs.OrderLemmas.{same_less}
 use Rattle.wasmi_lanes.proofs.ItemLemmas.{AreItems, repeated, zipped}
-use Rattle.wasmi_simd.proofs.HalfLemmas.{lane_bits_are, reread}
-use Rattle.wasmi_simd.proofs.WideningLemmas.{extended_fits, product_fits, sum_below, sum_of_bits, dot_of_bits}
+use Rattle.wasmi_simd.proofs.HalfLemmas.{lane_bits_are, reread, rewritten}
+use Rattle.wasmi_simd.proofs.WideningLemmas.{extended_fits, product_fits, sum_below, sum_of_bits, product_of_bits}
+use Rattle.wasmi_types.proofs.NumbersLemmas.{wrap_signed}
 use Rattle.std.proofs.lemmas.Nat.{shr-shr, mod-pow-add}
 
 -- a lane of twice the width is made of its two halves, an even and an odd one
@@ -24,8 +25,7 @@ shifted_is : (narrow wide : Width) (v high : ℕ) → ltb v (2 ^ hbits wide) ≡
     → v / 2 ^ bits narrow ≡ high
     → (2 ^ bits wide - suc v) / 2 ^ bits narrow ≡ 2 ^ bits narrow - suc high
     → shr_z (cast_signed wide v) (2 ^ bits narrow) ≡ cast_signed narrow high
-shifted_is narrow wide v high sign up down =
-    rw sign (by_sign (ltb high (2 ^ hbits narrow)))
+shifted_is narrow wide v high sign up down = rw sign (by_sign (ltb high (2 ^ hbits narrow)))
   where
     by_sign : (t : Bool)
         → shr_z (sel t (pos v) (negsuc (2 ^ bits wide - suc v))) (2 ^ bits narrow)
@@ -77,8 +77,7 @@ module _ {narrow wide : Width} {n : ℕ} (widens : IsWidening narrow wide n) (v 
 
   -- a lane of twice the width is an even lane and, above it, the odd one
   pub pair_is : (i : ℕ) → lane wide v i ≡ odd i * 2 ^ bits narrow + even i
-  pair_is i =
-      ap (λ k. v / 2 ^ (k * i) % 2 ^ k) widens.twice ∙ sym (joined_halves (bits narrow) v i)
+  pair_is i = ap (λ k. v / 2 ^ (k * i) % 2 ^ k) widens.twice ∙ sym (joined_halves (bits narrow) v i)
       ∙ omega (arith, mul_comm (odd i) (2 ^ bits narrow))
 
   module _ (xs : List ℕ) (long : length xs ≡ n) (is : (i : ℕ) → i < n → get_or xs i 0 ≡ lane wide v i) where
@@ -118,81 +117,62 @@ module _ {narrow wide : Width} {n : ℕ} (widens : IsWidening narrow wide n) (v 
         record { long = of_lanes.long; are = λ i inside. of_lanes.are i inside ∙ pair_is i }
 
     -- lane i, shifted to the right by the narrow width, is the odd narrow lane, extended with its sign
-    pub odd_signed_at : (i : ℕ) → i < n
-        → get_or (digits_l (2 ^ bits wide) n
-        (number_l 256
-        (digits_l 256 16 (number_l (2 ^ bits wide) (zip2 shifted_right words (replicate n (bits narrow))))))) i 0
+    pub odd_signed_at : (i : ℕ) → i < n → rewritten wide n (zip2 shifted_right words (replicate n (bits narrow))) i
         ≡ cast_unsigned wide (cast_signed narrow (odd i))
     odd_signed_at i inside =
         let rights = zipped shifted_right words_are (repeated n (bits narrow)) in
-        reread wide n (zip2 shifted_right words (replicate n (bits narrow)))
-        (λ k. cast_signed narrow (odd k)) i widens.filled
+        reread wide n _ (λ k. cast_signed narrow (odd k)) i widens.filled
         (record {
           long = rights.long;
-          are = λ k below.
-              rights.are k below ∙ ap (cast_unsigned wide)
+          are = λ k below. rights.are k below ∙ ap (cast_unsigned wide)
               (upper_signed widens (odd k) (even k) (lane_below narrow v (2 * k + 1)) (lane_below narrow v (2 * k)));
-        })
-        (λ k. extended_fits narrow wide v (2 * k + 1) widens.wider) inside
+        }) (λ k. extended_fits narrow wide v (2 * k + 1) widens.wider) inside
 
     -- lane i, shifted to the left before, is the even narrow lane, extended with its sign
     pub even_signed_at : (i : ℕ) → i < n
-        → get_or (digits_l (2 ^ bits wide) n
-        (number_l 256
-        (digits_l 256 16
-        (number_l (2 ^ bits wide)
-        (zip2 shifted_right (zip2 shifted_left words (replicate n (bits narrow))) (replicate n (bits narrow))))))) i
-        0
-        ≡ cast_unsigned wide (cast_signed narrow (even i))
+        → rewritten wide n (zip2 shifted_right (zip2 shifted_left words (replicate n (bits narrow)))
+        (replicate n (bits narrow))) i ≡ cast_unsigned wide (cast_signed narrow (even i))
     even_signed_at i inside =
         let lefts = zipped shifted_left words_are (repeated n (bits narrow)) in
         let rights = zipped shifted_right lefts (repeated n (bits narrow)) in
-        reread wide n
-        (zip2 shifted_right (zip2 shifted_left words (replicate n (bits narrow))) (replicate n (bits narrow)))
-        (λ k. cast_signed narrow (even k)) i widens.filled
+        reread wide n _ (λ k. cast_signed narrow (even k)) i widens.filled
         (record {
           long = rights.long;
-          are = λ k below.
-              rights.are k below
-              ∙ ap (λ m. shifted_right m (bits narrow))
+          are = λ k below. rights.are k below ∙ ap (λ m. shifted_right m (bits narrow))
               (lower_shifted widens (odd k) (even k) (lane_below narrow v (2 * k + 1)) (lane_below narrow v (2 * k)))
               ∙ ap (cast_unsigned wide)
               (upper_signed widens (even k) 0 (lane_below narrow v (2 * k)) (pow_pos (bits narrow)));
-        })
-        (λ k. extended_fits narrow wide v (2 * k) widens.wider) inside
+        }) (λ k. extended_fits narrow wide v (2 * k) widens.wider) inside
 
 -- the bits of the even or the odd narrow lanes of v, those at these places, read signed
 abbrev pub AreExtended : (narrow wide : Width) (n v : ℕ) → (ℕ → ℕ) → (ℕ → ℕ) → Type 0
 AreExtended narrow wide n v at x = (i : ℕ) → i < n → x i ≡ cast_unsigned wide (signed narrow (lane narrow v (at i)))
 
-module _ {narrow wide : Width} {n r : ℕ} (widens : IsWidening narrow wide n) (below : r < 2 ^ 128) where
-  module _ (v : ℕ) {x y : ℕ → ℕ} (is : (i : ℕ) → i < n → lane wide r i ≡ (x i + y i) % 2 ^ bits wide) where
+module _ {narrow wide : Width} {n r : ℕ} (widens : IsWidening narrow wide n) (below : r < 2 ^ 128) {z : ℕ → ℕ}
+    (made : (i : ℕ) → i < n → lane wide r i ≡ z i) where
+  module _ (v : ℕ) {x y : ℕ → ℕ} (is : (i : ℕ) → i < n → z i ≡ (x i + y i) % 2 ^ bits wide) where
     -- the sums of neighbouring lanes make the vector of these sums
     pub sums_make_vector : ((i : ℕ) → i < n → x i ≡ lane narrow v (2 * i))
         → ((i : ℕ) → i < n → y i ≡ lane narrow v (2 * i + 1))
         → r ≡ pairwise_unary narrow wide unsigned (λ p q. p + q) v
     unfolding pairwise_unary
-    sums_make_vector is_x is_y =
-        lanes_make_vector wide n r _ widens.filled below
-        (λ i inside.
-        is i inside ∙ ap₂ (λ p q. (p + q) % 2 ^ bits wide) (is_x i inside) (is_y i inside)
-        ∙ mod-eq_of_lt (sum_below widens (lane_below narrow v (2 * i)) (lane_below narrow v (2 * i + 1))))
+    sums_make_vector is_x is_y = lanes_make_vector wide n r _ widens.filled below
+        (λ i inside. rw (made i inside, is i inside, is_x i inside, is_y i inside)
+        (mod-eq_of_lt (sum_below widens (lane_below narrow v (2 * i)) (lane_below narrow v (2 * i + 1)))))
 
     -- and so where the lanes were read signed
     pub signed_sums_make_vector : AreExtended narrow wide n v (λ i. 2 * i) x
         → AreExtended narrow wide n v (λ i. 2 * i + 1) y
         → r ≡ pairwise_unary narrow wide (signed narrow) (λ p q. wrap wide (p +ℤ q)) v
     unfolding pairwise_unary
-    signed_sums_make_vector is_x is_y =
-        lanes_make_vector wide n r _ widens.filled below
-        (λ i inside.
-        rw (is i inside, is_x i inside, is_y i inside)
+    signed_sums_make_vector is_x is_y = lanes_make_vector wide n r _ widens.filled below
+        (λ i inside. rw (made i inside, is i inside, is_x i inside, is_y i inside)
         (sum_of_bits wide _ _ (extended_fits narrow wide v (2 * i) widens.wider)
         (extended_fits narrow wide v (2 * i + 1) widens.wider)))
 
   -- the sums of the products of two operands' neighbouring lanes, read signed, make the vector of these sums
   pub dots_make_vector : (a b : ℕ) {x x' y y' p q : ℕ → ℕ}
-      → ((i : ℕ) → i < n → lane wide r i ≡ (p i + q i) % 2 ^ bits wide)
+      → ((i : ℕ) → i < n → z i ≡ (p i + q i) % 2 ^ bits wide)
       → ((i : ℕ) → i < n → p i ≡ x i * y i % 2 ^ bits wide)
       → ((i : ℕ) → i < n → q i ≡ x' i * y' i % 2 ^ bits wide)
       → AreExtended narrow wide n a (λ i. 2 * i) x → AreExtended narrow wide n a (λ i. 2 * i + 1) x'
@@ -200,10 +180,11 @@ module _ {narrow wide : Width} {n r : ℕ} (widens : IsWidening narrow wide n) (
       → r ≡ pairwise_binary narrow wide (signed narrow) (λ x x' y y'. wrap wide ((x *ℤ y) +ℤ (x' *ℤ y'))) a b
   unfolding pairwise_binary
   dots_make_vector a b is is_p is_q is_x is_x' is_y is_y' =
-      lanes_make_vector wide n r _ widens.filled below
-      (λ i inside.
       let fits = λ (v k : ℕ). extended_fits narrow wide v k widens.wider in
-      rw (is i inside, is_p i inside, is_q i inside, is_x i inside, is_y i inside, is_x' i inside, is_y' i inside)
-      (dot_of_bits wide _ _ _ _ (fits a (2 * i)) (fits a (2 * i + 1)) (fits b (2 * i)) (fits b (2 * i + 1))
-      (product_fits narrow wide a (2 * i) b (2 * i) widens.room)
-      (product_fits narrow wide a (2 * i + 1) b (2 * i + 1) widens.room)))
+      let room = λ (k : ℕ). product_fits narrow wide a k b k widens.room in
+      let product = λ (k : ℕ). product_of_bits wide _ _ (fits a k) (fits b k) ∙ wrap_signed wide _ (room k) in
+      lanes_make_vector wide n r _ widens.filled below
+      (λ i inside. rw (made i inside, is i inside, is_p i inside, is_q i inside)
+      (rw (is_x i inside, is_y i inside, is_x' i inside, is_y' i inside)
+      (ap₂ (λ x y. (x + y) % 2 ^ bits wide) (product (2 * i)) (product (2 * i + 1))
+      ∙ sum_of_bits wide _ _ (room (2 * i)) (room (2 * i + 1)))))

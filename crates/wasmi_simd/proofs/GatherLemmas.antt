@@ -50,8 +50,7 @@ highest_bit h x fits =
 
 -- the highest bit of a number of h + 1 bits, in its place
 highest_alone : (h x : ℕ) → x < 2 ^ suc h → bit_and x (2 ^ h) ≡ one_if (leb (2 ^ h) x) * 2 ^ h
-highest_alone h x fits =
-    and_pow x h ∙ ap (λ n. n % 2 * 2 ^ h) (highest_bit h x fits)
+highest_alone h x fits = and_pow x h ∙ ap (λ n. n % 2 * 2 ^ h) (highest_bit h x fits)
     ∙ ap (λ n. n * 2 ^ h) (mod-eq_of_lt (omega (arith, bit_at_most (leb (2 ^ h) x))))
 
 -- the highest bits of the n lanes of h + 1 bits of v, as digits

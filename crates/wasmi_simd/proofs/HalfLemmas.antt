@@ -42,13 +42,14 @@ lane_bits_are w n v xs of_v =
     let words = mapped of_v (cast_unsigned w) in
     record { long = words.long; are = λ i inside. words.are i inside ∙ of_z-to_z w (lane w v i) (lane_below w v i) }
 
+-- lane i of lanes that are written to bytes and read of them again
+abbrev pub rewritten : Width → ℕ → List ℕ → ℕ → ℕ
+rewritten w n xs i = get_or (digits_l (2 ^ bits w) n (number_l 256 (digits_l 256 16 (number_l (2 ^ bits w) xs)))) i 0
+
 -- lanes that are the bits of signed numbers, read from the bytes to which they were written
 pub reread : (w : Width) (n : ℕ) (xs : List ℕ) (f : ℕ → ℤ) (i : ℕ) → n * bits w ≡ 128
-    → AreItems n 0 (λ k. cast_unsigned w (f k)) xs
-    → ((k : ℕ) → FitsSigned w (f k))
-    → i < n
-    → get_or (digits_l (2 ^ bits w) n (number_l 256 (digits_l 256 16 (number_l (2 ^ bits w) xs)))) i 0
-    ≡ cast_unsigned w (f i)
+    → AreItems n 0 (λ k. cast_unsigned w (f k)) xs → ((k : ℕ) → FitsSigned w (f k)) → i < n
+    → rewritten w n xs i ≡ cast_unsigned w (f i)
 reread w n xs f i filled of_f fits below =
     let r = number_l 256 (digits_l 256 16 (number_l (2 ^ bits w) xs)) in
     digit_at (bits w) n r i 0 below
@@ -59,72 +60,60 @@ reread w n xs f i filled of_f fits below =
     small k (inl inside) = rw (of_f.are k inside) (of_z_fits w (f k) (fits k)).fits
     small k (inr past) = rw (get_or_past xs k 0 (omega (arith, of_f.long))) (pow_pos (bits w))
 
--- lane i of the half that begins with lane `first` is lane `at i`
-pub record IsHalf (first : ℕ) (at : ℕ → ℕ) : Type 0 where
+-- lane i of the half that begins with lane `first` is lane `at i`, where each half has n lanes
+pub record IsHalf (n first : ℕ) (at : ℕ → ℕ) : Type 0 where
   pub place : (i : ℕ) → at i ≡ first + i
+  pub room : first + n ≤ n + n
 
 -- the lower half begins with lane 0
-pub lower : IsHalf 0 (λ i. i)
-lower = record { place = λ i. omega arith }
+pub lower : {n : ℕ} → IsHalf n 0 (λ i. i)
+lower = record { place = λ i. omega arith; room = omega arith }
 
--- the upper half begins with lane n, where each half has n lanes
-pub upper : (n : ℕ) → IsHalf n (λ i. n + i)
-upper n = record { place = λ i. refl }
+-- the upper half begins with lane n
+pub upper : {n : ℕ} → IsHalf n n (λ i. n + i)
+upper = record { place = λ i. refl; room = omega arith }
 
 module _ {narrow wide : Width} {n first : ℕ} {at : ℕ → ℕ} (widens : IsWidening narrow wide n)
-    (half : IsHalf first at) where
-  -- the lanes of half a vector of `all` narrow lanes, read signed and extended
-  pub extended_at : (all : ℕ) → T (all_below all (range_with_len first n)) → first + n ≤ all
-      → (v : ℕ) (xs : List ℤ) → AreItems all (pos 0) (λ i. cast_signed narrow (lane narrow v i)) xs
-      → (i : ℕ) → i < n
-      → get_or (digits_l (2 ^ bits wide) n
-      (number_l 256
-      (digits_l 256 16
-      (number_l (2 ^ bits wide)
-      (map (λ m. cast_unsigned wide (cast_signed narrow m))
-      (pick_l 0 (map (cast_unsigned narrow) xs ++ map (cast_unsigned narrow) xs) (range_with_len first n))))))) i
-      0
+    (half : IsHalf n first at) where
+  -- the lanes of half a vector, read signed and extended
+  pub extended_at : T (all_below (n + n) (range_with_len first n)) → (v : ℕ) (xs : List ℤ) → length xs ≡ n + n
+      → ((i : ℕ) → i < n + n → get_or xs i (pos 0) ≡ cast_signed narrow (lane narrow v i)) → (i : ℕ) → i < n
+      → rewritten wide n (map (λ m. cast_unsigned wide (cast_signed narrow m))
+      (pick_l 0 (map (cast_unsigned narrow) xs ++ map (cast_unsigned narrow) xs) (range_with_len first n))) i
       ≡ cast_unsigned wide (cast_signed narrow (lane narrow v (at i)))
-  extended_at all inside room v xs of_v i below =
+  extended_at inside v xs long are i below =
       let extend = λ (m : ℕ). cast_unsigned wide (cast_signed narrow m) in
-      let words = map (cast_unsigned narrow) xs in
-      let picked = extracted first n (lane_bits_are narrow all v xs of_v) inside room in
-      let extends = mapped picked extend in
-      reread wide n (map extend (pick_l 0 (words ++ words) (range_with_len first n)))
-      (λ k. cast_signed narrow (lane narrow v (first + k))) i widens.filled
-      (record { long = extends.long; are = extends.are })
+      let bits_are = lane_bits_are narrow (n + n) v xs (record { long = long; are = are }) in
+      reread wide n _ (λ k. cast_signed narrow (lane narrow v (first + k))) i widens.filled
+      (mapped (extracted first n bits_are inside half.room) extend)
       (λ k. extended_fits narrow wide v (first + k) widens.wider) below
       ∙ ap (λ k. extend (lane narrow v k)) (sym (half.place i))
 
-  module _ {r : ℕ} (below : r < 2 ^ 128) where
+  module _ {r : ℕ} (below : r < 2 ^ 128) {z : ℕ → ℕ} (made : (i : ℕ) → i < n → lane wide r i ≡ z i) where
     -- the narrow lanes of half a vector make the vector of these lanes
-    pub half_makes_vector : (v : ℕ) → ((i : ℕ) → i < n → lane wide r i ≡ lane narrow v (at i))
+    pub half_makes_vector : (v : ℕ) → ((i : ℕ) → i < n → z i ≡ lane narrow v (at i))
         → r ≡ half_unary narrow wide first unsigned (λ m. m) v
     unfolding half_unary
-    half_makes_vector v is =
-        lanes_make_vector wide n r _ widens.filled below
-        (λ i inside. is i inside ∙ ap (lane narrow v) (half.place i))
+    half_makes_vector v is = lanes_make_vector wide n r _ widens.filled below
+        (λ i inside. made i inside ∙ is i inside ∙ ap (lane narrow v) (half.place i))
 
     -- the bits of narrow lanes that were read signed make the vector of these lanes, extended
     pub extended_make_vector : (v : ℕ)
-        → ((i : ℕ) → i < n → lane wide r i ≡ cast_unsigned wide (signed narrow (lane narrow v (at i))))
+        → ((i : ℕ) → i < n → z i ≡ cast_unsigned wide (signed narrow (lane narrow v (at i))))
         → r ≡ half_unary narrow wide first (signed narrow) (wrap wide) v
     unfolding half_unary
-    extended_make_vector v is =
-        lanes_make_vector wide n r _ widens.filled below
-        (λ i inside.
-        rw (is i inside, ← half.place i) (sym (wrap_signed wide _ (extended_fits narrow wide v (at i) widens.wider))))
+    extended_make_vector v is = lanes_make_vector wide n r _ widens.filled below
+        (λ i inside. rw (made i inside, is i inside, ← half.place i)
+        (sym (wrap_signed wide _ (extended_fits narrow wide v (at i) widens.wider))))
 
-    module _ (a b : ℕ) {x y : ℕ → ℕ} (is : (i : ℕ) → i < n → lane wide r i ≡ x i * y i % 2 ^ bits wide) where
+    module _ (a b : ℕ) {x y : ℕ → ℕ} (is : (i : ℕ) → i < n → z i ≡ x i * y i % 2 ^ bits wide) where
       -- the products of two operands' narrow lanes make the vector of these products
       pub products_make_vector : ((i : ℕ) → i < n → x i ≡ lane narrow a (at i))
           → ((i : ℕ) → i < n → y i ≡ lane narrow b (at i))
           → r ≡ half_binary narrow wide first unsigned (λ p q. p * q) a b
       unfolding half_binary
-      products_make_vector is_x is_y =
-          lanes_make_vector wide n r _ widens.filled below
-          (λ i inside.
-          rw (is i inside, is_x i inside, is_y i inside, ← half.place i)
+      products_make_vector is_x is_y = lanes_make_vector wide n r _ widens.filled below
+          (λ i inside. rw (made i inside, is i inside, is_x i inside, is_y i inside, ← half.place i)
           (mod-eq_of_lt (product_below widens (lane_below narrow a (at i)) (lane_below narrow b (at i)))))
 
       -- and so where the lanes were read signed
@@ -133,10 +122,8 @@ module _ {narrow wide : Width} {n first : ℕ} {at : ℕ → ℕ} (widens : IsWi
           → ((i : ℕ) → i < n → y i ≡ cast_unsigned wide (signed narrow (lane narrow b (at i))))
           → r ≡ half_binary narrow wide first (signed narrow) (λ p q. wrap wide (p *ℤ q)) a b
       unfolding half_binary
-      signed_products_make_vector is_x is_y =
-          lanes_make_vector wide n r _ widens.filled below
-          (λ i inside.
-          rw (is i inside, is_x i inside, is_y i inside, ← half.place i)
+      signed_products_make_vector is_x is_y = lanes_make_vector wide n r _ widens.filled below
+          (λ i inside. rw (made i inside, is i inside, is_x i inside, is_y i inside, ← half.place i)
           (product_of_bits wide _ _ (extended_fits narrow wide a (at i) widens.wider)
           (extended_fits narrow wide b (at i) widens.wider)))
 

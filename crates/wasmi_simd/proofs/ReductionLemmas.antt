@@ -39,15 +39,13 @@ holds_joined : (n m : ℕ) (test : ℕ → Bool)
     → holds_below (n + m) test ≡ (holds_below n test && holds_below m (λ i. test (n + i)))
 unfolding holds_below
 holds_joined n zero test = rw (add-zero n) (sym (and-true (holds_below n test)))
-holds_joined n (suc m) test =
-    rw (add-suc n m, holds_joined n m test) (and_assoc (holds_below n test) _ (test (n + m)))
+holds_joined n (suc m) test = rw (add-suc n m, holds_joined n m test) (and_assoc (holds_below n test) _ (test (n + m)))
 
 -- two tests that agree on each number below n give the same n bits
 bits_as : (n : ℕ) (f g : ℕ → Bool) → ((i : ℕ) → i < n → f i ≡ g i) → first_bits n f ≡ first_bits n g
 unfolding first_bits
 bits_as zero f g each = refl
-bits_as (suc n) f g each =
-    ap₂ (λ b m. (if b then 1 else 0) + 2 * m) (each 0 (omega arith))
+bits_as (suc n) f g each = ap₂ (λ b m. (if b then 1 else 0) + 2 * m) (each 0 (omega arith))
     (bits_as n _ _ (λ i inside. each (suc i) (omega arith)))
 
 -- the bit of a test is at most 1
@@ -59,14 +57,12 @@ bit_at_most false = omega arith
 pub bits_below : (n : ℕ) (f : ℕ → Bool) → first_bits n f < 2 ^ n
 unfolding first_bits
 bits_below zero f = lit< tt
-bits_below (suc n) f =
-    omega (arith, bits_below n (λ i. f (suc i)), pow-suc 2 n, bit_at_most (f 0))
+bits_below (suc n) f = omega (arith, bits_below n (λ i. f (suc i)), pow-suc 2 n, bit_at_most (f 0))
 
 -- the first n + m bits of a test are its first n bits and, above them, the m bits of the numbers from n on
 bits_joined : (n m : ℕ) (f : ℕ → Bool) → first_bits (n + m) f ≡ first_bits n f + 2 ^ n * first_bits m (λ i. f (n + i))
 unfolding first_bits
-bits_joined zero m f =
-    simp (zero-add, one-mul)
+bits_joined zero m f = simp (zero-add, one-mul)
 bits_joined (suc n) m f =
     let rest : ℕ = first_bits m (λ i. f (suc (n + i))) in
     simp suc-add (rw (bits_joined n m (λ i. f (suc i))) (omega (
@@ -139,8 +135,7 @@ module _ (b n v ones tops : ℕ) (given : IsZeroTest b n v ones tops) where
   -- below a lane under which no lane is 0, v is at least the ones, so nothing is borrowed
   enough_below : (i : ℕ) → i < n → ((j : ℕ) → j < i → is_some j ≡ true) → ones % 2 ^ (b * i) ≤ v % 2 ^ (b * i)
   unfolding field
-  enough_below zero inside some =
-      rw (mul-zero b) (omega (arith, mod-one ones))
+  enough_below zero inside some = rw (mul-zero b) (omega (arith, mod-one ones))
   enough_below (suc i) inside some =
       let k : ℕ = b * i in
       let p : ℕ = 2 ^ k in

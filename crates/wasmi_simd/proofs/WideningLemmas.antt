@@ -1,11 +1,12 @@
 -- Lanes of vectors that are made of narrower lanes or of wider ones, and signed numbers at twice their width: their
 -- wrapped sums and products, and what fits.
-use Rattle.std.proofs.Common.{ℕ, suc, ◌+◌, ◌-◌, ◌*◌, ◌%◌, ◌^◌, ◌<◌, ◌≤◌, ◌≡◌, sym, ◌∙◌, ap, ap₂, arith, inl, inr, ℤ, leb, nat_lt, if◌then◌else◌, refl, le_refl, pow-suc, ◌+ℤ◌, ◌*ℤ◌, FitsSigned, Bool, mod-eq_of_lt, mod-lt, T, pos, negsuc, unsigned_abs, zero-add}
+use Rattle.std.proofs.Common.{ℕ, suc, ◌+◌, ◌-◌, ◌*◌, ◌%◌, ◌^◌, ◌<◌, ◌≤◌, ◌≡◌, sym, ◌∙◌, ap, arith, inl, inr, ℤ, leb, nat_lt, if◌then◌else◌, refl, le_refl, pow-suc, ◌+ℤ◌, ◌*ℤ◌, FitsSigned, Bool, mod-eq_of_lt, mod-lt, T, unsigned_abs, zero-add}
 use Rattle.wasmi_simd.proofs.Common.{pow_pos, mul-le, shl_below, cast_unsigned, int_wrap, pow_mono, cases_lt, lt-ltb, le-ltb, le-leb, Width, w8, w16, w32, w64, bits, wrap, signed, lane, lane_count, signed_fits, unsigned, lane_below, lane_of_from, some_bits, IsWidening, hbits, half_unary, half_binary, pairwise_unary, pairwise_binary, from_low_high}
 use Rattle.std.proofs.lemmas.Int.{of_z-to_z, wrapping_add_is, wrapping_mul_is, fits_signed_mul, to_z-of_z}
 use Rattle.std.proofs.Math.Facts.{sfits_widen}
 use Rattle.wasmi_types.proofs.NumbersLemmas.{wrap_below, wrap_signed}
 use Rattle.std.proofs.lemmas.Float.{T_from_true}
+use Rattle.wasmi_lanewise.proofs.SaturationLemmas.{abs_at_most}
 use mir.Syntax.{w128}
 use Rattle.wasmi_simd.proofs.ReductionLemmas.{bits_below, bit_of_first, test_of_numbers}
 
@@ -40,16 +41,6 @@ product_of_bits w x y fits_x fits_y =
     sym (of_z-to_z w _ (mod-lt _ (pow_pos (bits w)))) ∙ ap (cast_unsigned w) (wrapping_mul_is w x y fits_x fits_y)
     ∙ bits_of_wrapped w (x *ℤ y)
 
--- the products of the bits of signed numbers, added modulo 2 ^ w
-pub dot_of_bits : (w : Width) (x x' y y' : ℤ) → FitsSigned w x → FitsSigned w x' → FitsSigned w y → FitsSigned w y'
-    → FitsSigned w (x *ℤ y) → FitsSigned w (x' *ℤ y')
-    → (cast_unsigned w x * cast_unsigned w y % 2 ^ bits w + cast_unsigned w x' * cast_unsigned w y' % 2 ^ bits w) % 2 ^
-    bits w ≡ wrap w ((x *ℤ y) +ℤ (x' *ℤ y'))
-dot_of_bits w x x' y y' fits_x fits_x' fits_y fits_y' fits fits' =
-    ap₂ (λ p q. (p + q) % 2 ^ bits w) (product_of_bits w x y fits_x fits_y ∙ wrap_signed w (x *ℤ y) fits)
-    (product_of_bits w x' y' fits_x' fits_y' ∙ wrap_signed w (x' *ℤ y') fits')
-    ∙ sum_of_bits w (x *ℤ y) (x' *ℤ y') fits fits'
-
 -- a lane that is read signed is in the range of a wider signed type too
 pub extended_fits : (narrow wide : Width) (v i : ℕ) → T (leb (hbits narrow) (hbits wide))
     → FitsSigned wide (signed narrow (lane narrow v i))
@@ -60,14 +51,10 @@ pub product_fits : (narrow wide : Width) (a i b j : ℕ) → 2 ^ hbits narrow * 
     → FitsSigned wide (signed narrow (lane narrow a i) *ℤ signed narrow (lane narrow b j))
 product_fits narrow wide a i b j room =
     fits_signed_mul wide (signed narrow (lane narrow a i)) (signed narrow (lane narrow b j)) (2 ^ hbits narrow)
-    (2 ^ hbits narrow) (abs_at_most _ (in_range a i)) (abs_at_most _ (in_range b j)) room
+    (2 ^ hbits narrow) (at_most a i) (at_most b j) room
   where
-    in_range : (v k : ℕ) → FitsSigned narrow (signed narrow (lane narrow v k))
-    in_range v k = signed_fits narrow (lane narrow v k) (lane_below narrow v k)
-
-    abs_at_most : (z : ℤ) → FitsSigned narrow z → unsigned_abs z ≤ 2 ^ hbits narrow
-    abs_at_most (pos n) fits = let below = fits.sfits in omega arith
-    abs_at_most (negsuc n) fits = let below = fits.sfits in omega arith
+    at_most : (v k : ℕ) → unsigned_abs (signed narrow (lane narrow v k)) ≤ 2 ^ hbits narrow
+    at_most v k = abs_at_most _ (signed_fits narrow (lane narrow v k) (lane_below narrow v k))
 
 module _ {narrow wide : Width} {n : ℕ} (widens : IsWidening narrow wide n) {x y : ℕ} where
   -- the product of two numbers of the narrow width is below 2 to the power of the wide one
@@ -123,8 +110,7 @@ signed_of_wrapped w z fits = ap (signed w) (wrap_signed w z fits) ∙ to_z-of_z 
 
 -- a wider signed type has at least as many bits below its sign
 wider_half : (narrow wide : Width) → bits narrow ≤ bits wide → T (leb (hbits narrow) (hbits wide))
-wider_half narrow wide wider =
-    T_from_true (leb (hbits narrow) (hbits wide))
+wider_half narrow wide wider = T_from_true (leb (hbits narrow) (hbits wide))
     (le-leb (hbits narrow) (hbits wide) (omega (arith, one_less narrow, one_less wide)))
   where
     one_less : (w : Width) → bits w ≡ hbits w + 1

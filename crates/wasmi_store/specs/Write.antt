@@ -1,5 +1,5 @@
 -- A write over a range of items, whatever memory, table or list has them, as a bulk instruction makes it: what stands
--- before it, what the items become, what it costs, and how it ends.
+-- before it, what the items become, its price in fuel, and how it ends.
 use Rattle.std.specs.Prelude.{◌≡◌, ℕ, Option, Some, None, Result, Ok, Err, List, replicate, MatchBool, option_map, option_and_then}
 use Rattle.wasmi_types.specs.Access.{at, overwrite}
 use Rattle.wasmi_meter.specs.declared.{error.MemoryError.MemoryError, fuel.CustomFuelCosts.CustomFuelCosts}
@@ -16,7 +16,7 @@ filled items dst value len = overwrite items dst (replicate len value)
 abbrev pub copied : {A : Type 0} → List A → ℕ → List A → ℕ → ℕ → Option (List A)
 copied items dst source src len = option_and_then (λ part. overwrite items dst part) (at source src len)
 
--- the fuel for so many items of so many bytes each
+-- the price of a write over so many items of so many bytes each
 abbrev pub item_price : ℕ → ℕ → CustomFuelCosts → ℕ
 item_price size n costs = copy_cost costs n size
 

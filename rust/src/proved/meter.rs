@@ -1521,7 +1521,7 @@ mod limiter {
         }
     }
 
-    /// A reference to a limiter, or none, is a limiter.
+    /// A reference to a limiter, or none, is a limiter: its methods call those of the same names above.
     ///
     /// # Contract
     ///

@@ -3293,7 +3293,7 @@ abbrev pub <b id="WritesTable">WritesTable</b> : (<a href="../../store/TableSpec
 </code></pre>
 "####]
     pub mod TableSpecs {}
-    #[doc = r####"A write over a range of items, whatever memory, table or list has them, as a bulk instruction makes it: what stands before it, what the items become, what it costs, and how it ends.
+    #[doc = r####"A write over a range of items, whatever memory, table or list has them, as a bulk instruction makes it: what stands before it, what the items become, its price in fuel, and how it ends.
 
 <pre><code>use Rattle.std.specs.Prelude.{◌≡◌, ℕ, Option, Some, None, Result, Ok, Err, List, replicate, MatchBool, option_map, option_and_then}
 use Rattle.wasmi_types.specs.Access.{<a href="../../types/AccessSpecs/index.html#at">at</a>, <a href="../../types/AccessSpecs/index.html#overwrite">overwrite</a>}
@@ -3311,7 +3311,7 @@ abbrev pub <b id="filled">filled</b> : {A : Type 0} → List A → ℕ → A →
 abbrev pub <b id="copied">copied</b> : {A : Type 0} → List A → ℕ → List A → ℕ → ℕ → Option (List A)
 <a href="../../store/WriteSpecs/index.html#copied">copied</a> items dst source src len = option_and_then (λ part. <a href="../../types/AccessSpecs/index.html#overwrite">overwrite</a> items dst part) (<a href="../../types/AccessSpecs/index.html#at">at</a> source src len)
 
--- the fuel for so many items of so many bytes each
+-- the price of a write over so many items of so many bytes each
 abbrev pub <b id="item_price">item_price</b> : ℕ → ℕ → CustomFuelCosts → ℕ
 <a href="../../store/WriteSpecs/index.html#item_price">item_price</a> size n costs = <a href="../../meter/MeterSpecs/index.html#copy_cost">copy_cost</a> costs n size
 
@@ -4350,7 +4350,7 @@ abbrev pub <b id="with_item">with_item</b> : {X : Type 0} → <a href="../../mac
 </code></pre>
 "####]
     pub mod ReservedListSpecs {}
-    #[doc = r####"The state of a machine and its slots (core specification, the store), a world of it with a limiter, a turn with its outcome, refusals, the sizes and totals of a state, and when states and calls are valid.
+    #[doc = r####"The state of a machine, its slots and how many are reserved (core specification, the store), a new state, a world of it with a limiter, a turn with its outcome, refusals, the sizes and totals of a state, and when states and calls are valid.
 
 <pre><code>use Rattle.std.specs.Prelude.{ℕ, ◌+◌, List, [], Option, Some, None, slice_get, replicate, ◌≡◌, length, map, max, sum, ◌≤◌, All, option_and_then}
 use Rattle.wasmi_raw.specs.declared.raw.RawVal.{RawVal}
@@ -4398,7 +4398,7 @@ pub record <b id="State">State</b> : Type 0 where
   pub <b id="spare">spare</b> : Option (List ℕ)
   pub <b id="reserved">reserved</b> : SlotCounts
 
--- no slot of any kind
+-- what a new state has reserved: no slot of any kind
 abbrev pub <b id="no_slots">no_slots</b> : SlotCounts
 <a href="../../machine/StateSpecs/index.html#no_slots">no_slots</a> = record { <a href="../../machine/StateSpecs/index.html#memories">memories</a> = 0; <a href="../../machine/StateSpecs/index.html#tables">tables</a> = 0; <a href="../../machine/StateSpecs/index.html#segments">segments</a> = 0; <a href="../../machine/StateSpecs/index.html#data_segments">data_segments</a> = 0; <a href="../../machine/StateSpecs/index.html#globals">globals</a> = 0 }
 

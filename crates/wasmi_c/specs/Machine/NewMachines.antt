@@ -38,9 +38,9 @@ IsNewLimiter limits (limiter.Answers answers) = ⊥
 abbrev pub IsAnswer : ℕ → Type 0
 IsAnswer number = number < 4
 
--- the answer that such a number stands for
-abbrev pub answer_of : ℕ → LimiterAnswer
-answer_of number = if nat_eq number 0 then Permit else if nat_eq number 1 then Deny
+-- the answer that such a number of a list stands for; a host's single answer has other numbers
+abbrev pub listed_answer : ℕ → LimiterAnswer
+listed_answer number = if nat_eq number 0 then Permit else if nat_eq number 1 then Deny
     else if nat_eq number 2 then Error else Complain
 
 -- a machine with nothing on it, and with its quota if there are caps
@@ -65,4 +65,4 @@ abbrev pub MakesWithAnswers : Limits → List ℕ → Option MachineValue → �
 MakesWithAnswers limits numbers (Some machine) status held' = (status ≡ HAS_MACHINE) × (held' ≡ Some machine)
 MakesWithAnswers limits numbers None status held' =
     (¬ All IsAnswer numbers × (status ≡ NO_ANSWER) × (held' ≡ None))
-    ⊎ (All IsAnswer numbers × MakesMachine (IsNewWithAnswers limits (map answer_of numbers)) None status held')
+    ⊎ (All IsAnswer numbers × MakesMachine (IsNewWithAnswers limits (map listed_answer numbers)) None status held')

@@ -2,7 +2,7 @@
 //! it, of what is reserved on it, and of what it has.
 ghost use Rattle.std.specs.Prelude.{◌≡◌, IfOk, map};
 ghost use Rattle.wasmi_c.specs.Machine.Calls.{slots_of, totals_in};
-ghost use Rattle.wasmi_c.specs.Machine.NewMachines.{IsNewLimiter, meter_with, answer_of};
+ghost use Rattle.wasmi_c.specs.Machine.NewMachines.{IsNewLimiter, meter_with, listed_answer};
 
 use crate::types::{if_flag, meter};
 use std::alloc::{AllocError, Global};
@@ -114,13 +114,13 @@ impl Totals {
 
 /// The answers that numbers below 4 stand for.
 pub(super) fn answers_of(alloc: Global, numbers: &[u8]) -> Result<Vec<LimiterAnswer>, AllocError>
-    ensures answers { IfOk result (λ answers. answers.items ≡ map answer_of numbers.now) }
+    ensures answers { IfOk result (λ answers. answers.items ≡ map listed_answer numbers.now) }
 {
     numbers.iter().map(|number| answer(*number)).collect(alloc)
 }
 
 fn answer(number: u8) -> LimiterAnswer
-    ensures { result ≡ answer_of number }
+    ensures { result ≡ listed_answer number }
 {
     match number {
         0 => LimiterAnswer::Permit,

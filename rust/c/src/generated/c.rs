@@ -3034,7 +3034,7 @@ pub mod machine {
         /// # Contract
         ///
         /// ```text
-        /// ensures answers: IfOk result (λ answers. answers.items ≡ map answer_of numbers.now)
+        /// ensures answers: IfOk result (λ answers. answers.items ≡ map listed_answer numbers.now)
         /// ```
         #[inline]
         pub(super) fn answers_of(numbers: &[u8]) -> Result<Vec<LimiterAnswer>, AllocError> {
@@ -3046,7 +3046,7 @@ pub mod machine {
         /// # Contract
         ///
         /// ```text
-        /// ensures: result ≡ answer_of number
+        /// ensures: result ≡ listed_answer number
         /// ```
         #[inline]
         fn answer(number: u8) -> LimiterAnswer {

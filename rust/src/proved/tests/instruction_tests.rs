@@ -9,7 +9,6 @@ use crate::proved::raw::V128;
 use crate::proved::scalar::wasm::*;
 use crate::proved::types::TrapCode;
 use crate::proved::widening::simd::*;
-use crate::rattle::Vec;
 use std::fmt::Debug;
 
 /// Compares an answer with what it has to be. It is proved here once, and not at each row.
@@ -56,7 +55,7 @@ fn wide_arithmetic() {
 #[test]
 fn one_page() {
     const REFUSED: TrapCode = TrapCode::MemoryOutOfBounds;
-    let mut page = Vec::filled(0u8, 65536).expect("there is room for a page");
+    let mut page = [0u8; 65536];
     answers!(load_u64(&page, 65528, 0) => Ok(0),
         load_u64(&page, 65529, 0) => Err(REFUSED),
         load_u64(&page, u64::MAX, 1) => Err(REFUSED),
@@ -70,21 +69,11 @@ fn one_page() {
 }
 
 #[test]
-fn v128_or_works() {
-    let answer = v128_or(i16x8_splat(0), i16x8_splat(-1));
-    same("v128_or", answer, i16x8_splat(-1));
-}
-
-#[test]
-fn i32x4_dot_i16x8_s_works() {
-    let answer = i32x4_dot_i16x8_s(i16x8_splat(16383), i16x8_splat(16384));
-    same("i32x4_dot_i16x8_s", answer, i32x4_splat(536838144));
-}
-
-#[test]
-fn i8x16_narrow_i16x8_s_works() {
-    let answer = i8x16_narrow_i16x8_s(i16x8_splat(128), i16x8_splat(128));
-    same("i8x16_narrow_i16x8_s", answer, i8x16_splat(127));
+fn vector_instructions_work() {
+    answers!(v128_or(i16x8_splat(0), i16x8_splat(-1)) => i16x8_splat(-1),
+        i32x4_dot_i16x8_s(i16x8_splat(16383), i16x8_splat(16384)) => i32x4_splat(536838144),
+        i8x16_narrow_i16x8_s(i16x8_splat(128), i16x8_splat(128)) => i8x16_splat(127),
+    );
 }
 
 #[test]
@@ -149,7 +138,8 @@ fn words_with_unequal_lanes() {
 
 #[test]
 fn lane_indices_are_below_their_number() {
-    answers!(ImmLaneIdx16::try_from(15).map(u8::from) => Ok(15),
-        ImmLaneIdx16::try_from(16).map(u8::from) => Err(OutOfBoundsLaneIdx),
-    );
+    let last = ImmLaneIdx16::try_from(15).expect("a lane");
+    let none = ImmLaneIdx16::try_from(16).err();
+    let answer = (u8::from(last), none);
+    same("15 and 16", answer, (15, Some(OutOfBoundsLaneIdx)));
 }

@@ -1,12 +1,10 @@
-use Rattle.std.proofs.Common.{refl, inr, rules}
+use Rattle.std.proofs.Common.{refl}
 use Rattle.wasmi_c.specs.MemoryCalls.{filled_range}
 use Rattle.wasmi_c.proofs.PlacementLemmas.{written_with}
 use Rattle.wasmi_c.proofs.memory.fill.Goals as goal
 
 pub returns : goal.returns
-returns c =
-    let after = c.fill-written.new in
-    let writes = written_with (filled_range c.args.value) c.args.range.now c.args.memory.now.size _ _ after.bytes after.fuel
-    c.fill-written.result _ c.store_left.ensures (rw c.fuel-fuel.ensures at c.fill-written.ensures) (search rules) refl
-    (c.leave_write.ensures.status, c.leave_write.ensures.number) in
-    inr (c.in-Some._ty, c.in-Some.ensures, writes)
+returns c = written_with (filled_range c.args.value) c.args.range.now c.args.memory.now c.in-Some._ty _ _ _
+    c.fill-written.new.fuel c.fill-written.result _ c.in-Some.ensures c.store_left.ensures
+    (rw c.fuel-fuel.ensures at c.fill-written.ensures) c.fill-written.auto.bytes refl
+    (c.leave_write.ensures.status, c.leave_write.ensures.number)

@@ -1,6 +1,5 @@
-use Rattle.wasmi_lanewise.proofs.Common.{w16, binary_of_lanes}
+use Rattle.wasmi_lanewise.proofs.Common.{w16, binary_of_lanes, items, repeated, zipped}
 use Rattle.std.proofs.Common.{refl, ◌+◌, ◌*◌, ◌/◌, ◌%◌, ◌^◌, ◌∙◌, ap, ap₂, rules}
-use Rattle.wasmi_lanes.proofs.ItemLemmas.{items, repeated, zipped}
 use Rattle.wasmi_lanewise.proofs.OrderLemmas.{rows_make_vector}
 use Rattle.wasmi_lanewise.proofs.SaturationLemmas.{extended, doubled, rounded, rounded_product}
 use Rattle.wasmi_lanewise.proofs.simd.i16x8_q15mulr_sat_s.Goals as goal

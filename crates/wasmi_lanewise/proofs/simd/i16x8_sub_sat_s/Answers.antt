@@ -3,6 +3,3 @@ use Rattle.wasmi_lanewise.proofs.simd.i16x8_sub_sat_s.Goals as goal
 
 pub returns : goal.returns
 returns c = c.binary.ensures.lanes _ (λ x y z fits_x fits_y fits_z h. search rules)
-
-pub binary-requires : goal.binary-requires
-binary-requires c = search rules

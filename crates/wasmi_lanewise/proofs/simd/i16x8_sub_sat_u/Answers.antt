@@ -3,6 +3,5 @@ use Rattle.wasmi_lanewise.proofs.SaturationLemmas.{differences_u_make_vector}
 use Rattle.wasmi_lanewise.proofs.simd.i16x8_sub_sat_u.Goals as goal
 
 pub returns : goal.returns
-returns c =
-    differences_u_make_vector w16 _ _ (search rules) (search rules) c.args.lhs c.args.rhs c.vector_of.ensures.in_range
-    c.lanes_of.ensures.lanes c.lanes_of-2.ensures.lanes c.vector_of.ensures.lanes
+returns c = differences_u_make_vector w16 _ _ (search rules) (search rules) c.args.lhs c.args.rhs
+    c.vector_of.ensures.in_range c.lanes_of.ensures.lanes c.lanes_of-2.ensures.lanes c.vector_of.ensures.lanes

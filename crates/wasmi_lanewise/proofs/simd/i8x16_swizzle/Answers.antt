@@ -4,14 +4,12 @@ use Rattle.wasmi_lanewise.proofs.ChosenLemmas.{bytes_fit, chosen_same, picked_or
 use Rattle.wasmi_lanewise.proofs.simd.i8x16_swizzle.Goals as goal
 
 pub swizzle : goal.swizzle
-swizzle c =
-    positions_may_index c.bytes_of.result (search rules)
+swizzle c = positions_may_index c.bytes_of.result (search rules)
     (bytes_fit c.args.s c.bytes_of.result (search rules) c.bytes_of.ensures.lanes)
 
 pub returns : goal.returns
 unfolding unary_of_lanes
-returns c =
-    lanes_make_vector w8 16 c.from_bytes.result _ refl c.from_bytes.ensures.in_range
+returns c = lanes_make_vector w8 16 c.from_bytes.result _ refl c.from_bytes.ensures.in_range
     (λ i inside.
     c.from_bytes.ensures.lanes i inside
     ∙ picked_or_zero_at c.bytes_of.result (search rules)

@@ -1,9 +1,8 @@
-use Rattle.std.proofs.Common.{◌∙◌, sym, refl, bit_and}
-use Rattle.std.proofs.lemmas.Nat.{and_shr, and_mod}
-use Rattle.wasmi_lanewise.proofs.WordLemmas.{by_words}
+use Rattle.std.proofs.Common.{refl, bit_and}
+use Rattle.wasmi_lanewise.proofs.Common.{u64x2_of, and_shr, and_mod}
+use Rattle.wasmi_lanewise.proofs.WordLemmas.{on_words}
 use Rattle.wasmi_lanewise.proofs.simd.v128_and.Goals as goal
 
 pub returns : goal.returns
-returns c =
-    c.from_u64x2.ensures _ _ (rw (c.u64x2_of.ensures, c.u64x2_of-2.ensures) refl)
-    ∙ sym (by_words bit_and (record { on_high = and_shr; on_low = and_mod }) c.args.lhs c.args.rhs)
+returns c = on_words {a = c.args.lhs} {b = c.args.rhs} bit_and and_shr and_mod (u64x2_of refl refl) (u64x2_of refl refl)
+    (c.from_u64x2.ensures _ _ (rw (c.u64x2_of.ensures, c.u64x2_of-2.ensures) refl))

@@ -1,9 +1,8 @@
-use Rattle.std.proofs.Common.{◌∙◌, sym, refl, bit_or}
-use Rattle.std.proofs.lemmas.Nat.{or_shr, or_mod}
-use Rattle.wasmi_lanewise.proofs.WordLemmas.{by_words}
+use Rattle.std.proofs.Common.{refl, bit_or}
+use Rattle.wasmi_lanewise.proofs.Common.{u64x2_of, or_shr, or_mod}
+use Rattle.wasmi_lanewise.proofs.WordLemmas.{on_words}
 use Rattle.wasmi_lanewise.proofs.simd.v128_or.Goals as goal
 
 pub returns : goal.returns
-returns c =
-    c.from_u64x2.ensures _ _ (rw (c.u64x2_of.ensures, c.u64x2_of-2.ensures) refl)
-    ∙ sym (by_words bit_or (record { on_high = or_shr; on_low = or_mod }) c.args.lhs c.args.rhs)
+returns c = on_words {a = c.args.lhs} {b = c.args.rhs} bit_or or_shr or_mod (u64x2_of refl refl) (u64x2_of refl refl)
+    (c.from_u64x2.ensures _ _ (rw (c.u64x2_of.ensures, c.u64x2_of-2.ensures) refl))

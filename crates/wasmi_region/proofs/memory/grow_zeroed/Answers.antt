@@ -1,7 +1,7 @@
-use Rattle.std.proofs.Common.{◌∙◌, Some, ap, Ok, false, refl, sym, arith, length, drop}
+use Rattle.std.proofs.Common.{rules, ◌∙◌, Some, ap, Ok, false, refl, sym, arith, length, drop}
 use Rattle.wasmi_region.proofs.Common.{cond-false, err_from_is_err_and, optional_rules, lent_limiter, grows_lent, growing, grows_none, grows_unasked, grows_met, memory_growth, growth_permitted}
 use Rattle.wasmi_region.specs.Memory.{memory_in}
-use Rattle.wasmi_region.proofs.MemoryLemmas.{zeroed_none, paged, bounds, asked_in, room_is, grown}
+use Rattle.wasmi_region.proofs.MemoryLemmas.{zeroed_none, zeroed_length, zeroed_rest, paged, bounds, asked_in, room_is, grown}
 use Rattle.wasmi_region.proofs.memory.grow_zeroed.Goals as goal
 
 pub returns-then-additional-eq0-clause-grown : goal.returns-then-additional-eq0-clause-grown
@@ -11,10 +11,9 @@ returns-then-additional-eq0-clause-grown g c = rw (zeroed_none c.args.region.now
     c.if-additional-eq0.true (ap Ok (c.pages_in-old_pages.ensures ∙ sym (paged c.args.ty _ _ c.requires.within c.args.additional))))
 
 pub returns-in_default-clause-grown : goal.returns-in_default-clause-grown
-returns-in_default-clause-grown g c = rw (zeroed_none c.args.region.now c.args.size.now) (
-    grows_unasked (growing (optional_rules g.L.ResourceLimiter.rules) (memory_growth c.args.additional) _ _ _
-    c.if-additional-eq0.false) _ (cond-false _ _ _ (bounds c.args.ty _ _ c.requires.within _ false c.in_default.ensures.size))
-    )
+returns-in_default-clause-grown g c = rw (zeroed_none c.args.region.now c.args.size.now)
+    (grows_unasked (growing (optional_rules g.L.ResourceLimiter.rules) (memory_growth c.args.additional) _ _ _
+    c.if-additional-eq0.false) _ (cond-false _ _ _ (bounds c.args.ty _ _ c.requires.within _ false c.in_default.ensures.size)))
 
 pub returns-in_err-decide_growth-clause-grown : goal.returns-in_err-decide_growth-clause-grown
 returns-in_err-decide_growth-clause-grown g c =
@@ -35,9 +34,6 @@ returns-in_err-decide_growth-clause-loan g c =
     (room_is c.args.ty _ _ c.requires.within _ c.in-Some.ensures.size _ refl) in
     (grows_lent g.L.ResourceLimiter.rules c.args.limiter.now c.decide_growth.new.limiter x x
     (Some c.args.fuel.now) (Some c.decide_growth.new.fuel) (memory_growth c.args.additional x) _ _ grown.1).0
-
-pub returns-clause-loan : goal.returns-clause-loan
-returns-clause-loan g c = c.in_ok-decide_growth.ensures.permitted.0
 
 pub returns-clause-grown : goal.returns-clause-grown
 returns-clause-grown g c =
@@ -78,3 +74,9 @@ pub returns-in_err-decide_growth-clause-refused : goal.returns-in_err-decide_gro
 returns-in_err-decide_growth-clause-refused g c =
     rw ((err_from_is_err_and c.from_residual.result c.from_residual.ensures.1).1)
     (zeroed_none c.args.region.now c.args.size.now)
+
+pub returns-clause-len : goal.returns-clause-len
+returns-clause-len g c = zeroed_length c.args.region.now c.args.size.now c.in-Some.new_size (search rules) (search rules)
+
+pub returns-clause-rest : goal.returns-clause-rest
+returns-clause-rest g c = zeroed_rest c.args.region.now c.args.size.now c.in-Some.new_size (search rules) (search rules)

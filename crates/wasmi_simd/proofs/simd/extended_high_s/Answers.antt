@@ -1,8 +1,6 @@
-use Rattle.std.proofs.Common.{◌∙◌}
 use Rattle.wasmi_simd.proofs.HalfLemmas.{upper, extended_make_vector}
 use Rattle.wasmi_simd.proofs.simd.extended_high_s.Goals as goal
 
 pub returns : goal.returns
-returns g c =
-    extended_make_vector g.met.T.ExtendedLane.widens (upper _) c.vector_of.ensures.in_range c.args.v
-    (λ i inside. c.vector_of.ensures.lanes i inside ∙ c.high_signed.ensures.lanes i inside)
+returns g c = extended_make_vector g.met.T.ExtendedLane.widens upper c.vector_of.ensures.in_range
+    c.vector_of.ensures.lanes c.args.v c.high_signed.ensures.lanes

@@ -6,8 +6,7 @@ use Rattle.wasmi_simd.proofs.simd.i32x4_relaxed_dot_i8x16_i7x16_add_s.Goals as g
 
 pub returns : goal.returns
 unfolding binary_of_lanes
-returns c =
-    rows_make_vector w32 c.i32x4_extadd_pairwise_i16x8_s-pairs.result c.args.c c.vector_of.ensures.in_range
+returns c = rows_make_vector w32 c.i32x4_extadd_pairwise_i16x8_s-pairs.result c.args.c c.vector_of.ensures.in_range
     c.lanes_of.ensures.lanes c.lanes_of-2.ensures.lanes (λ x y. (x + y) % 2 ^ 32) _
     (λ i inside. c.vector_of.ensures.lanes i inside ∙ c.sums.ensures.lanes i inside)
     (λ _ _ _ _. refl)

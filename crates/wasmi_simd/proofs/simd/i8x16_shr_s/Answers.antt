@@ -1,5 +1,5 @@
 use Rattle.std.proofs.Common.{ℕ, ◌+◌, ◌-◌, ◌%◌, ◌/◌, ◌^◌, ◌∙◌, ap, ap₂, refl, arith, rules}
-use Rattle.wasmi_simd.proofs.Common.{w8, lane, unary_of_lanes, lane_below, lanes_make_vector, lane_of_lanes}
+use Rattle.wasmi_simd.proofs.Common.{w8, lane, unary_of_lanes, lane_below, lanes_make_vector, lane_of_from}
 use Rattle.wasmi_lanes.proofs.ItemLemmas.{items, zipped}
 use Rattle.wasmi_simd.proofs.ShiftLemmas.{moved_and_back, half_at}
 use Rattle.wasmi_simd.proofs.simd.i8x16_shr_s.Goals as goal
@@ -16,7 +16,7 @@ returns c =
     c.from_bytes.ensures.lanes i inside ∙ differences.are i inside
     ∙ ap₂ (λ x y. (x + (2 ^ 8 - y)) % 2 ^ 8)
     (c.bytes_of.ensures.lanes i inside ∙ ap (λ n. lane w8 n i) c.i8x16_shr_u-shifted.ensures
-    ∙ lane_of_lanes w8 (λ k. lane w8 c.vector_of-biased.result k / 2 ^ s) 16 i refl inside
+    ∙ lane_of_from w8 i inside (λ k. lane w8 c.vector_of-biased.result k / 2 ^ s)
     ∙ ap (λ n. n / 2 ^ s % 2 ^ 8)
     (c.vector_of-biased.ensures.lanes i inside ∙ c.biased.ensures.lanes i inside
     ∙ ap (λ n. (n + 2 ^ 7) % 2 ^ 8) (c.lanes_of.ensures.lanes i inside)))

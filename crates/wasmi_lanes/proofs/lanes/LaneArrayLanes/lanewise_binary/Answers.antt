@@ -1,6 +1,5 @@
 use Rattle.std.proofs.Common.{get_or, arith, rules}
-use Rattle.wasmi_lanes.proofs.Common.{common_steps, get_or_default}
-use Rattle.wasmi_lanes.proofs.LanesLemmas.{set_more}
+use Rattle.wasmi_lanes.proofs.Common.{common_steps, get_or_default, set_more}
 use Rattle.wasmi_lanes.proofs.lanes.LaneArrayLanes.lanewise_binary.Goals as goal
 
 pub loop-i-preserved : goal.loop-i-preserved

@@ -3,5 +3,4 @@ use Rattle.wasmi_lanewise.proofs.ShiftLemmas.{mask_at}
 use Rattle.wasmi_lanewise.proofs.shift.U16NarrowLane.shift_masks.Goals as goal
 
 pub returns : goal.returns
-returns c = record
-    { masks = c.u64x2_of.ensures ∙ mask_at w16 c.args.dropped c.requires.dropped _ _ refl c.from.ensures refl }
+returns c = record { masks = c.u64x2_of.ensures ∙ mask_at w16 _ c.requires.dropped _ _ refl c.from.ensures refl }

@@ -4,6 +4,5 @@ use Rattle.wasmi_lanewise.proofs.OrderLemmas.{at_most_is_not_less, inverted_comp
 use Rattle.wasmi_lanewise.proofs.simd.order.at_most_u.Goals as goal
 
 pub returns : goal.returns
-returns g c =
-    inverted_comparison g.T.LaneInteger.width unsigned ltb leb c.args.lhs c.args.rhs at_most_is_not_less
+returns g c = inverted_comparison g.T.LaneInteger.width unsigned ltb leb c.args.lhs c.args.rhs at_most_is_not_less
     (omega arith) (omega arith) c.less_u.ensures c.v128_not.ensures
