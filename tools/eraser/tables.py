@@ -100,7 +100,8 @@ ERRORS = {
     r"result ≡ idiv_s ": ORDER + "`IntegerDivisionByZero` if the divisor is 0; `IntegerOverflow` for the least number by -1.",
     r"result ≡ (?:idiv_u|irem_[su]) ": "`IntegerDivisionByZero` if the divisor is 0.",
     r"rules\.(?:asked|noticed) self": "An implementation's own. The call then returns `ResourceLimiterDeniedAllocation`.",
-    r"\(optional_rules L\.rules\)\.(?:asked|noticed) \(lent_limiter (?:self|limiter\.old\) \(notice)": "The limiter's. Without a limiter there is none.",
+    r"\(optional_rules L\.rules\)\.(?:asked|noticed) \(lent_limiter self": "The limiter's. Without a limiter there is none.",
+    r"\(optional_rules L\.rules\)\.noticed \(Some limiter\.old\) \(notice": "The limiter's.",
     r"FuelError\.FuelMeteringDisabled": "`FuelMeteringDisabled` if the meter is off.",
     r"\bConsumesFuel ": "`OutOfFuel` with the amount if less is left; then nothing is consumed.",
     r"result ≡ binary_raw ": "Divisions and remainders alone can trap: by zero with `IntegerDivisionByZero`, and a signed division"

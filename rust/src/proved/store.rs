@@ -216,6 +216,10 @@ pub mod growth {
 
         /// Notifies the limiter that a growth which it permitted failed with this error.
         ///
+        /// # Errors
+        ///
+        /// The limiter's.
+        ///
         /// # Contract
         ///
         /// ```text
